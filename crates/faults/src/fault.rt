@@ -1,0 +1,40 @@
+//! A refusal together with the figure that tells what was wrong.
+ghost use mathlib.Core.Path.{_≡_};
+ghost use Rattle.std.specs.declared.option.Option.the-variants.{Some};
+ghost use Rattle.faults.specs.Faults.{fault, printed};
+use crate::refusal::Refusal;
+use crate::refusal::RefusalDebug;
+use crate::refusal::RefusalDisplay;
+use crate::refusal::RefusalPartialEq;
+use std::fmt;
+
+/// What a refused call answers: which rule refused, and the figure that tells what was wrong.
+///
+/// A fault from a lower layer passes through every layer above it as it is.
+#[derive(Clone, Copy, PartialEq, Eq, Debug)]
+pub struct Fault {
+    /// the rule that refused
+    pub refusal: Refusal,
+    /// what was wrong: a value, a length, a slot, a number or a mark, by the refusal
+    pub figure: u64,
+}
+
+impl Fault {
+    /// The fault for a refusal with its figure.
+    pub fn new(refusal: Refusal, figure: u64) -> Fault
+        ensures { λ r. ⌜ r ≡ fault refusal figure ⌝ }
+    {
+        Fault { refusal, figure }
+    }
+}
+
+pub impl fmt::Display for Fault as FaultDisplay {
+    ghost shown = { λ x. Some (printed x) };
+
+    fn fmt<W: fmt::Write>(&self, f: &mut fmt::Formatter<W>) -> fmt::Result {
+        let number = self.refusal.number();
+        let meaning = self.refusal.meaning();
+        let figure = self.figure;
+        write!(f, "refusal {number}, {meaning}: {figure}")
+    }
+}

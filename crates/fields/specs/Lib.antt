@@ -1,0 +1,5 @@
+pub mod Answers
+pub mod Choices
+pub mod Kinds
+pub mod Lawful
+pub mod Polynomials
