@@ -1,7 +1,7 @@
 //! A refusal together with the figure that tells what was wrong.
 ghost use mathlib.Core.Path.{_≡_};
-ghost use Rattle.std.specs.declared.option.Option.the-variants.{Some};
-ghost use Rattle.faults.specs.Faults.{fault, printed};
+ghost use Rattle.std.specs.declared.option.Option.the-variants.{None, Some};
+ghost use Rattle.faults.specs.Faults.{fault, printed, check, answer};
 use crate::refusal::Refusal;
 use crate::refusal::RefusalDebug;
 use crate::refusal::RefusalDisplay;
@@ -17,6 +17,17 @@ pub struct Fault {
     pub refusal: Refusal,
     /// what was wrong: a value, a length, a slot, a number or a mark, by the refusal
     pub figure: u64,
+}
+
+/// One check of a call: refuses with this figure where the test does not pass.
+pub fn refuse_unless(passes: bool, refusal: Refusal, figure: u64) -> Result<(), Fault>
+    ensures { λ r. ⌜ r ≡ answer (check passes (fault refusal figure) None) tt ⌝ }
+{
+    if passes {
+        Ok(())
+    } else {
+        Err(Fault::new(refusal, figure))
+    }
 }
 
 impl Fault {

@@ -6,6 +6,7 @@
 pub mod fault;
 pub mod refusal;
 
+pub use fault::refuse_unless;
 pub use fault::Fault;
 pub use fault::FaultDebug;
 pub use fault::FaultDisplay;

@@ -1,9 +1,10 @@
 -- Packed frames: rows of slots carried in bytes. Assumes nothing.
 use Prim.Native.Nat.{ℕ, suc, _+_, _-_, _*_, _/_, _%_, _^_}
 use mathlib.Core.Bool.{Bool, true, false, not, cond, _&&_}
-use mathlib.Core.List.{List}
+use mathlib.Core.List.{List, map}
 use lib.Dec.{eqb, ltb}
 use lib.ListN.{length, getD, set}
+use Rattle.std.specs.Iters.{counting}
 use Rattle.std.specs.declared.result.Result.{Result}
 use Rattle.std.specs.declared.result.Result.the-variants.{Ok, Err}
 use Rattle.faults.specs.Faults.{fault}
@@ -26,6 +27,16 @@ with-bit byte i b = byte / 2 ^ suc i * 2 ^ suc i + cond b (2 ^ i) 0 + byte % 2 ^
 -- a frame with one slot made to stand or to be clear; a slot past the last byte changes nothing
 abbrev pub with-slot : List ℕ → ℕ → Bool → List ℕ
 with-slot frame s b = set frame (s / 8) (with-bit (getD frame (s / 8) 0) (7 - s % 8) b)
+
+-- the byte whose eight bits, the highest first, a test tells at the slots of byte j
+abbrev pub byte-of : (ℕ → Bool) → ℕ → ℕ
+byte-of test j =
+    cond (test (8 * j)) 128 0 + cond (test (8 * j + 1)) 64 0 + cond (test (8 * j + 2)) 32 0 + cond (test (8 * j + 3)) 16 0
+    + cond (test (8 * j + 4)) 8 0 + cond (test (8 * j + 5)) 4 0 + cond (test (8 * j + 6)) 2 0 + cond (test (8 * j + 7)) 1 0
+
+-- a frame whose first so many slots stand as a test tells, and whose other bits are as they were
+abbrev pub framed : (ℕ → Bool) → ℕ → List ℕ → List ℕ
+framed test slots frame = map (byte-of (λ s. cond (ltb s slots) (test s) (stands frame s))) (counting 0 (length frame))
 
 -- an answer for a slot of a row of so many slots, or refusal 7 with the slot
 abbrev pub slot-answer : {A : Type 0} → ℕ → ℕ → A → Result A Fault
