@@ -24,6 +24,11 @@ printed f = codes "refusal " ++ (decimal (number (f .refusal)) ++ (codes ", " ++
 abbrev pub check : Bool → Fault → Option Fault → Option Fault
 check passes f rest = cond passes rest (Some f)
 
+-- the checks of one part, and after them those of another
+abbrev pub then : Option Fault → Option Fault → Option Fault
+then None rest = rest
+then (Some f) rest = Some f
+
 -- the answer of a call: its value where nothing refuses, and otherwise the fault
 abbrev pub answer : {A : Type 0} → Option Fault → A → Result A Fault
 answer None value = Ok value

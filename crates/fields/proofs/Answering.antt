@@ -84,3 +84,10 @@ table-value q table a b v e = elim (cases-lt a q) [
     ]
   | inr above ↦ absurd (let z : _≡_ {A = Result ℕ Fault} (Ok v) (Err (fault Element a)) = e ∙ cond-false (ltb a q) _ _ (le-ltb a q above) in let w : _≡_ {A = ℕ} 0 1 = cc in omega arith)
   ]
+
+-- a table refuses no two elements
+pub table-accepts : (q : ℕ) (table : ℕ → ℕ → ℕ) (a b : ℕ) (d : Fault) → a < q → b < q → Err d ≡ table-answer q table a b → ⊥
+table-accepts q table a b d ha hb e =
+    let z : _≡_ {A = Result ℕ Fault} (Err d) (Ok (table a b)) = e ∙ table-ok q table a b ha hb in
+    let w : _≡_ {A = ℕ} 0 1 = cc in
+    omega arith

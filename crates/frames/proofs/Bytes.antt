@@ -58,7 +58,7 @@ bit-differs x y i =
 
 -- the upper bits in which two bytes differ are the set bits of their exclusive or
 byte-distance : (x y r : ℕ) → x < 256 → y < 256 → r ≤ 8
-  → count (λ t. differ (bit-set x (7 - t)) (bit-set y (7 - t))) r ≡ ones (bitXor x y / 2 ^ (8 - r))
+    → count (λ t. differ (bit-set x (7 - t)) (bit-set y (7 - t))) r ≡ ones (bitXor x y / 2 ^ (8 - r))
 unfolding count ones
 byte-distance x y zero hx hy hr =
     let none : bitXor x y / 256 ≡ 0 = omega (arith, xor-lt 8 x y hx hy) in
@@ -70,21 +70,21 @@ byte-distance x y (suc r) hx hy hr =
     ap₂ _+_ (byte-distance x y r hx hy (omega arith)) (bit-differs x y (7 - r))
     ∙ add-comm _ _
     ∙ sym (ap (λ e. ones (z / 2 ^ e)) next ∙ ones-step (z / 2 ^ (7 - r))
-      ∙ ap (λ w. z / 2 ^ (7 - r) % 2 + ones w) (shr-shr z (7 - r) 1 ∙ ap (λ e. z / 2 ^ e) up))
+    ∙ ap (λ w. z / 2 ^ (7 - r) % 2 + ones w) (shr-shr z (7 - r) 1 ∙ ap (λ e. z / 2 ^ e) up))
 
 -- the first slots of one more byte are compared
 pub distance-more : (a b : List ℕ) (i r : ℕ) → getD a i 0 < 256 → getD b i 0 < 256 → r ≤ 8
-  → frame-distance a b (8 * i + r) ≡ frame-distance a b (8 * i) + ones (bitXor (getD a i 0) (getD b i 0) / 2 ^ (8 - r))
+    → frame-distance a b (8 * i + r) ≡ frame-distance a b (8 * i) + ones (bitXor (getD a i 0) (getD b i 0) / 2 ^ (8 - r))
 distance-more a b i r ha hb hr =
     count-split (λ s. differ (stands a s) (stands b s)) (8 * i) r
     ∙ ap (λ n. frame-distance a b (8 * i) + n)
-      (count-same _ (λ t. differ (bit-set (getD a i 0) (7 - t)) (bit-set (getD b i 0) (7 - t))) r
-        (λ t h. ap₂ (λ place turn. differ (bit-set (getD a place 0) (7 - turn)) (bit-set (getD b place 0) (7 - turn))) (omega arith) (omega arith))
-      ∙ byte-distance (getD a i 0) (getD b i 0) r ha hb hr)
+    (count-same _ (λ t. differ (bit-set (getD a i 0) (7 - t)) (bit-set (getD b i 0) (7 - t))) r
+    (λ t h. ap₂ (λ place turn. differ (bit-set (getD a place 0) (7 - turn)) (bit-set (getD b place 0) (7 - turn))) (omega arith) (omega arith))
+    ∙ byte-distance (getD a i 0) (getD b i 0) r ha hb hr)
 
 -- a whole byte more is compared
 pub distance-more-byte : (a b : List ℕ) (i : ℕ) → getD a i 0 < 256 → getD b i 0 < 256
-  → frame-distance a b (8 * (i + 1)) ≡ frame-distance a b (8 * i) + ones (bitXor (getD a i 0) (getD b i 0))
+    → frame-distance a b (8 * (i + 1)) ≡ frame-distance a b (8 * i) + ones (bitXor (getD a i 0) (getD b i 0))
 distance-more-byte a b i ha hb =
     ap (frame-distance a b) (let e : 8 * (i + 1) ≡ 8 * i + 8 = omega arith in e) ∙ distance-more a b i 8 ha hb (omega arith)
     ∙ ap (λ z. frame-distance a b (8 * i) + ones z) (div-one (bitXor (getD a i 0) (getD b i 0)))
@@ -95,8 +95,8 @@ distance-le a b slots = count-le (λ s. differ (stands a s) (stands b s)) slots
 
 -- the slots of a last byte are compared
 pub distance-rest : (a b : List ℕ) (slots i sum : ℕ) → i ≡ slots / 8 → sum ≡ frame-distance a b (8 * i)
-  → getD a (slots / 8) 0 < 256 → getD b (slots / 8) 0 < 256
-  → sum + ones (bitXor (getD a (slots / 8) 0) (getD b (slots / 8) 0) / 2 ^ (8 - slots % 8)) ≡ frame-distance a b slots
+    → getD a (slots / 8) 0 < 256 → getD b (slots / 8) 0 < 256
+    → sum + ones (bitXor (getD a (slots / 8) 0) (getD b (slots / 8) 0) / 2 ^ (8 - slots % 8)) ≡ frame-distance a b slots
 distance-rest a b slots i sum e counted ha hb =
     let whole : 8 * (slots / 8) + slots % 8 ≡ slots = omega arith in
     let so-far : sum ≡ frame-distance a b (8 * (slots / 8)) = counted ∙ ap (λ k. frame-distance a b (8 * k)) e in

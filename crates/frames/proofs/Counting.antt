@@ -208,6 +208,6 @@ count-rows-exactly-once g n q one-each =
 -- where every number below n passes, each of them does
 pub count-full : (f : ℕ → Bool) (n : ℕ) → count f n ≡ n → (k : ℕ) → k < n → f k ≡ true
 count-full f n e k h = elim (cases-bool (f k)) [
-    inl passes ↦ passes
+  | inl passes ↦ passes
   | inr fails ↦ absurd (omega (arith, count-some (λ i. not (f i)) n k h (ap not fails), count-not f n))
-  ]
+]

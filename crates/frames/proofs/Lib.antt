@@ -1,2 +1,3 @@
 pub mod Bytes
 pub mod Counting
+pub mod Slots

@@ -1,1 +1,10 @@
+pub mod Addressing
+pub mod Digits
+pub mod Drawing
+pub mod Evaluating
 pub mod Limits
+pub mod RecordChecks
+pub mod RecordLaws
+pub mod Roots
+pub mod Shared
+pub mod Values

@@ -25,12 +25,12 @@ pub record Limits (q n k d e : ℕ) : Type 0 where
   pub far-apart : burden k d e < n
 
 -- no check refuses: the first passes, and none of the others refuses
-passed : (passes : Bool) (f : Fault) (rest : Option Fault) → check passes f rest ≡ None → (passes ≡ true) × (rest ≡ None)
+pub passed : (passes : Bool) (f : Fault) (rest : Option Fault) → check passes f rest ≡ None → (passes ≡ true) × (rest ≡ None)
 passed true f rest e = (refl, e)
 passed false f rest e = let z : _≡_ {A = ℕ} 0 1 = cc in absurd (omega arith)
 
 -- where nothing refuses, nothing is
-none-refuses : (refusal : Option Fault) → not (isSome refusal) ≡ true → refusal ≡ None
+pub none-refuses : (refusal : Option Fault) → not (isSome refusal) ≡ true → refusal ≡ None
 none-refuses None e = refl
 none-refuses (Some f) e = absurd (false≢true e)
 

@@ -1,1 +1,4 @@
+pub mod Calls
 pub mod Plans
+pub mod Records
+pub mod Words

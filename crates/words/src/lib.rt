@@ -1,7 +1,15 @@
 //! Plans, plan records and the words of cards.
 
 pub mod plan;
+pub mod record;
+pub mod word;
 
 pub use plan::Plan;
 pub use plan::PlanDebug;
 pub use plan::PlanPartialEq;
+pub use record::NameKind;
+pub use record::NameKindDebug;
+pub use record::NameKindPartialEq;
+pub use record::PlanRecord;
+pub use record::PlanRecordDebug;
+pub use record::PlanRecordPartialEq;
