@@ -13,6 +13,7 @@ use Rattle.faults.specs.declared.fault.Fault.{Fault}
 use Rattle.faults.specs.declared.refusal.Refusal.the-variants.{Element}
 use Rattle.fields.specs.Lawful.{Tables, Lawful}
 use Rattle.fields.specs.Answers.{element-answer, table-answer, negative-of, inverse-of, negative-answer, inverse-answer}
+use Rattle.fields.specs.Theorems.{Partners-are-unique}
 use Rattle.fields.proofs.Algebra.{one-negative, one-inverse, zero-absorbs, zero-absorbs-left}
 use Rattle.fields.proofs.Searching.{the-one-is}
 
@@ -37,13 +38,21 @@ table-answered q table a b a′ b′ v ea eb h =
     ap Ok (e ∙ ap (λ x. table x b′) (ka .0) ∙ ap (table a) (kb .0)) ∙ sym (table-ok q table a b (ka .1) (kb .1))
 
 module _ (f : Tables) (laws : Lawful f) where
-  -- what adds up with a to 0 is the negative that is answered
+  -- what adds up with a to 0 is its negative
+  negative-is : (a v : ℕ) → a < f .order → v < f .order → f .plus a v ≡ 0 → v ≡ negative-of f a
+  negative-is a v ha hv e = the-one-is (λ b. eqb (f .plus a b) 0) (f .order) v hv (eq-eqb _ 0 e) (λ c hc p. one-negative f laws a c v ha hc hv (eqb-true _ 0 p) e)
+
+  -- what multiplies with a to 1 is its inverse
+  inverse-is : (a v : ℕ) → a < f .order → v < f .order → f .times a v ≡ 1 → v ≡ inverse-of f a
+  inverse-is a v ha hv e = the-one-is (λ b. eqb (f .times a b) 1) (f .order) v hv (eq-eqb _ 1 e) (λ c hc p. one-inverse f laws a c v ha hc hv (eqb-true _ 1 p) e)
+
+  -- what adds up with an accepted index to 0 is the negative that is answered
   pub negative-answered : (a a′ v : ℕ) → Ok a′ ≡ element-answer (f .order) a → v < f .order → (a′ < f .order → f .plus a′ v ≡ 0) → Ok v ≡ negative-answer f a
   negative-answered a a′ v ea hv h =
       let ka = element-ok (f .order) a a′ ea in
       let ha = ka .1 in
       let e : f .plus a v ≡ 0 = ap (λ x. f .plus x v) (sym (ka .0)) ∙ h (omega (arith, ka .0, ka .1)) in
-      ap Ok (the-one-is (λ b. eqb (f .plus a b) 0) (f .order) v hv (eq-eqb _ 0 e) (λ c hc p. one-negative f laws a c v ha hc hv (eqb-true _ 0 p) e))
+      ap Ok (negative-is a v ha hv e)
       ∙ sym (cond-true (ltb a (f .order)) _ _ (lt-ltb a (f .order) ha))
 
   -- where each element is its own negative, an element is the negative that is answered
@@ -59,7 +68,7 @@ module _ (f : Tables) (laws : Lawful f) where
   pub inverse-answered : (a v : ℕ) → a < f .order → v < f .order → f .times a v ≡ 1 → Ok v ≡ inverse-answer f a
   inverse-answered a v ha hv e =
       let other : a ≡ 0 → ⊥ = λ z. let w : _≡_ {A = ℕ} 0 1 = sym (zero-absorbs-left f laws v hv) ∙ ap (λ x. f .times x v) (sym z) ∙ e in omega arith in
-      ap Ok (the-one-is (λ b. eqb (f .times a b) 1) (f .order) v hv (eq-eqb _ 1 e) (λ c hc p. one-inverse f laws a c v ha hc hv (eqb-true _ 1 p) e))
+      ap Ok (inverse-is a v ha hv e)
       ∙ sym (cond-false (eqb a 0) _ _ (ne-eqb a 0 other) ∙ cond-true (ltb a (f .order)) _ _ (lt-ltb a (f .order) ha))
 
   -- where no product of a with an element but 0 is 1, the inverse is refused
@@ -91,3 +100,13 @@ table-accepts q table a b d ha hb e =
     let z : _≡_ {A = Result ℕ Fault} (Err d) (Ok (table a b)) = e ∙ table-ok q table a b ha hb in
     let w : _≡_ {A = ℕ} 0 1 = cc in
     omega arith
+
+-- negatives and inverses are those of the tables, and no others
+pub partners : Partners-are-unique
+partners f laws a b ha hb =
+    record {
+      negative = negative-is f laws a b ha hb;
+      negative-back = λ e. let found = laws .negatives a ha in ap (f .plus a) (e ∙ sym (negative-is f laws a (found .0) ha (found .1) (found .2))) ∙ found .2;
+      inverse = inverse-is f laws a b ha hb;
+      inverse-back = λ positive e. let found = laws .inverses a positive ha in ap (f .times a) (e ∙ sym (inverse-is f laws a (found .0) ha (found .1) (found .2))) ∙ found .2;
+    }

@@ -3,3 +3,4 @@ pub mod Choices
 pub mod Kinds
 pub mod Lawful
 pub mod Polynomials
+pub mod Theorems

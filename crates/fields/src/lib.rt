@@ -7,6 +7,7 @@ pub mod any;
 pub mod binary;
 mod elements;
 pub mod field;
+pub mod laws;
 pub mod prime;
 
 pub use any::AnyField;

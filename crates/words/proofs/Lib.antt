@@ -2,6 +2,7 @@ pub mod Addressing
 pub mod Digits
 pub mod Drawing
 pub mod Evaluating
+pub mod Examples
 pub mod Limits
 pub mod RecordChecks
 pub mod RecordLaws

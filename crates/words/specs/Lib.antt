@@ -1,4 +1,5 @@
 pub mod Calls
+pub mod Examples
 pub mod Plans
 pub mod Records
 pub mod Words

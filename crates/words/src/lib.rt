@@ -1,5 +1,6 @@
 //! Plans, plan records and the words of cards.
 
+pub mod laws;
 pub mod plan;
 pub mod record;
 pub mod word;
