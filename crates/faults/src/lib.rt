@@ -6,11 +6,11 @@
 pub mod fault;
 pub mod refusal;
 
-pub use fault::refuse_unless;
 pub use fault::Fault;
 pub use fault::FaultDebug;
 pub use fault::FaultDisplay;
 pub use fault::FaultPartialEq;
+pub use fault::refuse_unless;
 pub use refusal::Refusal;
 pub use refusal::RefusalDebug;
 pub use refusal::RefusalDisplay;

@@ -20,9 +20,9 @@ use Rattle.fields.proofs.Searching.{the-one-is}
 -- an accepted index is the one handed in, and an element
 pub element-ok : (q a v : ℕ) → Ok v ≡ element-answer q a → (v ≡ a) × (a < q)
 element-ok q a v e = elim (cases-lt a q) [
-    inl below ↦ (let z : _≡_ {A = Result ℕ Fault} (Ok v) (Ok a) = e ∙ cond-true (ltb a q) _ _ (lt-ltb a q below) in cc, below)
+  | inl below ↦ (let z : _≡_ {A = Result ℕ Fault} (Ok v) (Ok a) = e ∙ cond-true (ltb a q) _ _ (lt-ltb a q below) in cc, below)
   | inr above ↦ absurd (let z : _≡_ {A = Result ℕ Fault} (Ok v) (Err (fault Element a)) = e ∙ cond-false (ltb a q) _ _ (le-ltb a q above) in let w : _≡_ {A = ℕ} 0 1 = cc in omega arith)
-  ]
+]
 
 -- the answer of a table at two elements
 pub table-ok : (q : ℕ) (table : ℕ → ℕ → ℕ) (a b : ℕ) → a < q → b < q → table-answer q table a b ≡ Ok (table a b)
@@ -30,7 +30,7 @@ table-ok q table a b ha hb = cond-true (ltb a q) _ _ (lt-ltb a q ha) ∙ cond-tr
 
 -- a value that is the table's at two accepted indices is the answer
 pub table-answered : (q : ℕ) (table : ℕ → ℕ → ℕ) (a b a′ b′ v : ℕ) → Ok a′ ≡ element-answer q a → Ok b′ ≡ element-answer q b
-  → (a′ < q → b′ < q → v ≡ table a′ b′) → Ok v ≡ table-answer q table a b
+    → (a′ < q → b′ < q → v ≡ table a′ b′) → Ok v ≡ table-answer q table a b
 table-answered q table a b a′ b′ v ea eb h =
     let ka = element-ok q a a′ ea in
     let kb = element-ok q b b′ eb in
@@ -58,11 +58,11 @@ module _ (f : Tables) (laws : Lawful f) where
   -- where each element is its own negative, an element is the negative that is answered
   pub own-negative-answered : ((a : ℕ) → a < f .order → f .plus a a ≡ 0) → (a : ℕ) → element-answer (f .order) a ≡ negative-answer f a
   own-negative-answered own a = elim (cases-lt a (f .order)) [
-      inl below ↦ let e = cond-true (ltb a (f .order)) (Ok a) (Err (fault Element a)) (lt-ltb a (f .order) below) in
+    | inl below ↦ let e = cond-true (ltb a (f .order)) (Ok a) (Err (fault Element a)) (lt-ltb a (f .order) below) in
         e ∙ negative-answered a a a (sym e) below (own a)
     | inr above ↦ let no′ = le-ltb a (f .order) above in
         cond-false (ltb a (f .order)) _ _ no′ ∙ sym (cond-false (ltb a (f .order)) _ _ no′)
-    ]
+  ]
 
   -- what multiplies with a to 1 is the inverse that is answered
   pub inverse-answered : (a v : ℕ) → a < f .order → v < f .order → f .times a v ≡ 1 → Ok v ≡ inverse-answer f a
@@ -74,25 +74,25 @@ module _ (f : Tables) (laws : Lawful f) where
   -- where no product of a with an element but 0 is 1, the inverse is refused
   pub inverse-missing : (a : ℕ) → a < f .order → ((b : ℕ) → 0 < b → b < f .order → f .times a b ≡ 1 → ⊥) → Err (fault Element a) ≡ inverse-answer f a
   inverse-missing a ha none = elim (cases-eq a 0) [
-      inl same ↦ sym (cond-true (eqb a 0) _ _ (eq-eqb a 0 same))
+    | inl same ↦ sym (cond-true (eqb a 0) _ _ (eq-eqb a 0 same))
     | inr other ↦
-      let found = laws .inverses a (omega arith) ha in
-      let b = found .0 in
-      elim (cases-eq b 0) [
-        inl z ↦ absurd (let w : _≡_ {A = ℕ} 0 1 = sym (zero-absorbs f laws a ha) ∙ ap (f .times a) (sym z) ∙ found .2 in omega arith)
-      | inr positive ↦ absurd (none b (omega arith) (found .1) (found .2))
-      ]
-    ]
+        let found = laws .inverses a (omega arith) ha in
+        let b = found .0 in
+        elim (cases-eq b 0) [
+          | inl z ↦ absurd (let w : _≡_ {A = ℕ} 0 1 = sym (zero-absorbs f laws a ha) ∙ ap (f .times a) (sym z) ∙ found .2 in omega arith)
+          | inr positive ↦ absurd (none b (omega arith) (found .1) (found .2))
+        ]
+  ]
 
 -- a table's answer that is a value: both indices are elements, and it is the table's value
 pub table-value : (q : ℕ) (table : ℕ → ℕ → ℕ) (a b v : ℕ) → Ok v ≡ table-answer q table a b → (a < q) × (b < q) × (v ≡ table a b)
 table-value q table a b v e = elim (cases-lt a q) [
-    inl ha ↦ elim (cases-lt b q) [
-      inl hb ↦ (ha, hb, let z : _≡_ {A = Result ℕ Fault} (Ok v) (Ok (table a b)) = e ∙ table-ok q table a b ha hb in cc)
+  | inl ha ↦ elim (cases-lt b q) [
+    | inl hb ↦ (ha, hb, let z : _≡_ {A = Result ℕ Fault} (Ok v) (Ok (table a b)) = e ∙ table-ok q table a b ha hb in cc)
     | inr above ↦ absurd (let z : _≡_ {A = Result ℕ Fault} (Ok v) (Err (fault Element b)) = e ∙ cond-true (ltb a q) _ _ (lt-ltb a q ha) ∙ cond-false (ltb b q) _ _ (le-ltb b q above) in let w : _≡_ {A = ℕ} 0 1 = cc in omega arith)
-    ]
-  | inr above ↦ absurd (let z : _≡_ {A = Result ℕ Fault} (Ok v) (Err (fault Element a)) = e ∙ cond-false (ltb a q) _ _ (le-ltb a q above) in let w : _≡_ {A = ℕ} 0 1 = cc in omega arith)
   ]
+  | inr above ↦ absurd (let z : _≡_ {A = Result ℕ Fault} (Ok v) (Err (fault Element a)) = e ∙ cond-false (ltb a q) _ _ (le-ltb a q above) in let w : _≡_ {A = ℕ} 0 1 = cc in omega arith)
+]
 
 -- a table refuses no two elements
 pub table-accepts : (q : ℕ) (table : ℕ → ℕ → ℕ) (a b : ℕ) (d : Fault) → a < q → b < q → Err d ≡ table-answer q table a b → ⊥

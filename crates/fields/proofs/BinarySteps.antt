@@ -38,7 +38,7 @@ module _ (a w i x : ℕ) (small : a < 2 ^ w) (fits : w + i ≤ 12) where
 
 -- one more term of b
 pub product-more : (a b w i sum : ℕ) → a < 2 ^ w → w + i ≤ 12 → sum ≡ product i a b
-  → bitXor sum (((a * 2 ^ i) % 4294967296) * bitAnd (b / 2 ^ i) 1) ≡ product (i + 1) a b
+    → bitXor sum (((a * 2 ^ i) % 4294967296) * bitAnd (b / 2 ^ i) 1) ≡ product (i + 1) a b
 unfolding product
 product-more a b w i sum small fits e =
     rw add-one (ap (λ y. bitXor y (((a * 2 ^ i) % 4294967296) * bitAnd (b / 2 ^ i) 1)) e
@@ -46,7 +46,7 @@ product-more a b w i sum small fits e =
 
 -- one more term is cancelled
 pub remainder-more : (m modulus i rest : ℕ) → modulus < 2 ^ 7 → 7 + i ≤ 12
-  → remainder m modulus i (bitXor rest (((modulus * 2 ^ i) % 4294967296) * bitAnd (rest / 2 ^ (m + i)) 1)) ≡ remainder m modulus (suc i) rest
+    → remainder m modulus i (bitXor rest (((modulus * 2 ^ i) % 4294967296) * bitAnd (rest / 2 ^ (m + i)) 1)) ≡ remainder m modulus (suc i) rest
 unfolding remainder
 remainder-more m modulus i rest small fits =
     ap (λ y. remainder m modulus i (bitXor rest y)) (term-is modulus i (rest / 2 ^ (m + i)) (shifted-below modulus 7 i small fits))

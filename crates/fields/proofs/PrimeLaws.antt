@@ -16,8 +16,8 @@ use Rattle.fields.proofs.Searching.{all-below-at, all-below-from, all-below-fa
 pub mul-mod-mod : (a b p : ℕ) → (a * (b % p)) % p ≡ (a * b) % p
 mul-mod-mod a b p =
     let split : a * b ≡ a * (b % p) + p * (a * (b / p)) =
-      ap (λ x. a * x) (sym (mod-add-div b p)) ∙ mul-add a (b % p) (p * (b / p))
-      ∙ ap (λ x. a * (b % p) + x) (sym (mul-assoc a p (b / p)) ∙ ap (λ x. x * (b / p)) (mul-comm a p) ∙ mul-assoc p a (b / p)) in
+    ap (λ x. a * x) (sym (mod-add-div b p)) ∙ mul-add a (b % p) (p * (b / p))
+    ∙ ap (λ x. a * (b % p) + x) (sym (mul-assoc a p (b / p)) ∙ ap (λ x. x * (b / p)) (mul-comm a p) ∙ mul-assoc p a (b / p)) in
     sym (ap (λ x. x % p) split ∙ add-mul-mod-self-left (a * (b % p)) p (a * (b / p)))
 
 pub mod-mul-mod : (a b p : ℕ) → ((a % p) * b) % p ≡ (a * b) % p
@@ -37,8 +37,8 @@ unfolding prime
 undivided p none =
     let every = all-below-from (λ k. not (eqb (p % (k + 2)) 0)) (p - 2) (λ k h. not-from-false _ (ne-eqb _ 0 (none k (omega arith)))) in
     elim (cases-bool (leb 2 p)) [
-      inl yes′ ↦ yes′ ∙ sym (and-from (leb 2 p) _ yes′ every)
-    | inr no′ ↦ no′ ∙ sym (and-left (leb 2 p) _ no′)
+      | inl yes′ ↦ yes′ ∙ sym (and-from (leb 2 p) _ yes′ every)
+      | inr no′ ↦ no′ ∙ sym (and-left (leb 2 p) _ no′)
     ]
 
 -- an inverse by search, for the test below
@@ -89,8 +89,8 @@ prime-laws p ok =
       sums-associate = λ a b c ha hb hc. mod-add-mod (a + b) p c ∙ ap (λ x. x % p) (add-assoc a b c) ∙ sym (add-mod-mod a (b + c) p);
       products-associate = λ a b c ha hb hc. mod-mul-mod (a * b) c p ∙ ap (λ x. x % p) (mul-assoc a b c) ∙ sym (mul-mod-mod a (b * c) p);
       products-distribute = λ a b c ha hb hc.
-        mul-mod-mod a (b + c) p ∙ ap (λ x. x % p) (mul-add a b c)
-        ∙ sym (mod-add-mod (a * b) p ((a * c) % p) ∙ add-mod-mod (a * b) (a * c) p);
+          mul-mod-mod a (b + c) p ∙ ap (λ x. x % p) (mul-add a b c)
+          ∙ sym (mod-add-mod (a * b) p ((a * c) % p) ∙ add-mod-mod (a * b) (a * c) p);
       zero-is-neutral = λ a ha. ap (λ x. x % p) (zero-add a) ∙ mod-eq-of-lt ha;
       one-is-neutral = λ a ha. ap (λ x. x % p) (one-mul a) ∙ mod-eq-of-lt ha;
       one-is-an-element = omega arith;

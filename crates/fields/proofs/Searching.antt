@@ -33,8 +33,8 @@ unfolding the-one
 the-one-is f zero b h e unique = absurd (omega arith)
 the-one-is f (suc n) b h e unique =
     elim (cases-bool (f n)) [
-      inl passes ↦ sym (unique n (omega arith) passes) ∙ sym (cond-true (f n) n (the-one f n) passes)
-    | inr fails ↦
-      let below : b < n = elim (cases-eq b n) [ inl same ↦ absurd (both-ways (f n) fails (rw (← same) e)) | inr other ↦ omega arith ] in
-      the-one-is f n b below e (λ c l p. unique c (omega arith) p) ∙ sym (cond-false (f n) n (the-one f n) fails)
+      | inl passes ↦ sym (unique n (omega arith) passes) ∙ sym (cond-true (f n) n (the-one f n) passes)
+      | inr fails ↦
+          let below : b < n = elim (cases-eq b n) [ inl same ↦ absurd (both-ways (f n) fails (rw (← same) e)) | inr other ↦ omega arith ] in
+          the-one-is f n b below e (λ c l p. unique c (omega arith) p) ∙ sym (cond-false (f n) n (the-one f n) fails)
     ]

@@ -211,16 +211,25 @@ bit-le false v = omega arith
 -- eight bits make a byte
 byte-of-below : (test : ℕ → Bool) (j : ℕ) → byte-of test j < 256
 byte-of-below test j =
-    omega (arith, bit-le (test (8 * j)) 128, bit-le (test (8 * j + 1)) 64, bit-le (test (8 * j + 2)) 32, bit-le (test (8 * j + 3)) 16,
-      bit-le (test (8 * j + 4)) 8, bit-le (test (8 * j + 5)) 4, bit-le (test (8 * j + 6)) 2, bit-le (test (8 * j + 7)) 1)
+    omega (
+      arith,
+      bit-le (test (8 * j)) 128,
+      bit-le (test (8 * j + 1)) 64,
+      bit-le (test (8 * j + 2)) 32,
+      bit-le (test (8 * j + 3)) 16,
+      bit-le (test (8 * j + 4)) 8,
+      bit-le (test (8 * j + 5)) 4,
+      bit-le (test (8 * j + 6)) 2,
+      bit-le (test (8 * j + 7)) 1,
+    )
 
 -- a frame is made of bytes
 pub framed-bytes : (test : ℕ → Bool) (slots : ℕ) (old : List ℕ) (i : ℕ) → getD (framed test slots old) i 0 < 256
 framed-bytes test slots old i =
     let told-byte = byte-of (λ s. cond (ltb s slots) (test s) (stands old s)) in
     elim (cases-lt i (length old)) [
-      inl within ↦ rw (getD-map-counting told-byte 0 (length old) i i 0 within (omega arith)) (byte-of-below (λ s. cond (ltb s slots) (test s) (stands old s)) i)
-    | inr past ↦ let size = length-framed test slots old in rw (getD-past (framed test slots old) i 0 (omega arith)) (omega arith)
+      | inl within ↦ rw (getD-map-counting told-byte 0 (length old) i i 0 within (omega arith)) (byte-of-below (λ s. cond (ltb s slots) (test s) (stands old s)) i)
+      | inr past ↦ let size = length-framed test slots old in rw (getD-past (framed test slots old) i 0 (omega arith)) (omega arith)
     ]
 
 -- no slot is told yet
@@ -236,9 +245,9 @@ framed-more test slots old within =
     framed-from test (slots + 1) old (with-slot before slots (test slots)) (length-with-slot before slots (test slots) ∙ size)
     (bytes-with-slot before slots (test slots) (framed-bytes test slots old))
     (λ s h. elim (cases-eq s slots) [
-        inl same ↦ rw same (stands-same before slots (test slots) (omega (arith, size)))
+      | inl same ↦ rw same (stands-same before slots (test slots) (omega (arith, size)))
       | inr other ↦ stands-other before slots s (test slots) other ∙ framed-stands test slots old s (omega arith) (omega arith)
-      ])
+    ])
     (λ s h. stands-other before slots s (test slots) (omega arith) ∙ framed-spare test slots old s (omega arith))
 
 -- telling slots that are told already changes nothing

@@ -27,7 +27,7 @@ symbol-below f laws k number place below =
 
 -- the checks that an accepted place has passed
 pub addressed : (f : Tables) (p : Plan) (number place : ℕ) → symbol-refusal f p number place ≡ None
-  → (f .order ≡ p .q) × (number < p .q ^ p .k) × (place < p .n)
+    → (f .order ≡ p .q) × (number < p .q ^ p .k) × (place < p .n)
 addressed f p number place e =
     let c1 = passed _ _ _ e in
     let c2 = passed _ _ _ (c1 .1) in
@@ -36,7 +36,7 @@ addressed f p number place e =
 
 -- a slot of a word lies on the plan's row
 pub slot-below : (f : Tables) → Lawful f → (p : Plan) (number place : ℕ) → symbol-refusal f p number place ≡ None
-  → slot-at f (p .k) number place < p .n * p .q
+    → slot-at f (p .k) number place < p .n * p .q
 slot-below f laws p number place e =
     let known = addressed f p number place e in
     let l = limits (p .q) (p .n) (p .k) (p .d) (p .e) (p .limits) in
@@ -51,7 +51,7 @@ slots-few p =
 
 -- an answered symbol and its place make a small number
 pub slot-fits : (f : Tables) → Lawful f → (p : Plan) (number place q v : ℕ) → q ≡ p .q
-  → _≡_ {A = Result ℕ Fault} (Ok v) (answer (symbol-refusal f p number place) (symbol f (p .k) number place)) → place * q + v < 4096
+    → _≡_ {A = Result ℕ Fault} (Ok v) (answer (symbol-refusal f p number place) (symbol f (p .k) number place)) → place * q + v < 4096
 slot-fits f laws p number place q v eq ev =
     let known = accepted _ _ _ ev in
     let order = addressed f p number place (known .0) .0 in

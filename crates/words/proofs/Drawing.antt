@@ -29,15 +29,15 @@ place-within n q place frame size hp =
 
 -- a place is begun
 pub drawn-start : (test : ℕ → Bool) (q place : ℕ) (old before : List ℕ) → place * q ≤ 8 * length old
-  → before ≡ framed test (place * q) old → before ≡ framed test (place * q + 0) before
+    → before ≡ framed test (place * q) old → before ≡ framed test (place * q + 0) before
 drawn-start test q place old before within e =
     let m = place * q in
     e ∙ sym (framed-again test m m old (omega arith) within) ∙ ap (framed test m) (sym e) ∙ ap (λ k. framed test k before) (sym (add-zero m))
 
 -- one slot more of a place is drawn
 pub drawn-more : (f : Tables) (k number place q y v : ℕ) (old frame : List ℕ) → q ≡ f .order → v ≡ symbol f k number place → y < q
-  → place * q + y < 8 * length old → frame ≡ framed (in-word f k number) (place * f .order + y) old
-  → with-slot frame (place * q + y) (eqb v y) ≡ framed (in-word f k number) (place * f .order + (y + 1)) old
+    → place * q + y < 8 * length old → frame ≡ framed (in-word f k number) (place * f .order + y) old
+    → with-slot frame (place * q + y) (eqb v y) ≡ framed (in-word f k number) (place * f .order + (y + 1)) old
 drawn-more f k number place q y v old frame eq ev below within e =
     let s = place * f .order + y in
     let same : place * q + y ≡ s = ap (λ w. place * w + y) eq in
@@ -48,7 +48,7 @@ drawn-more f k number place q y v old frame eq ev below within e =
 
 -- one place more is drawn
 pub drawn-place : (test : ℕ → Bool) (q place : ℕ) (old before frame : List ℕ) → place * q + q ≤ 8 * length old
-  → before ≡ framed test (place * q) old → frame ≡ framed test (place * q + q) before → frame ≡ framed test ((place + 1) * q) old
+    → before ≡ framed test (place * q) old → frame ≡ framed test (place * q + q) before → frame ≡ framed test ((place + 1) * q) old
 drawn-place test q place old before frame within eb ef =
     let next : place * q + q ≡ (place + 1) * q = omega (arith, add-mul place 1 q, one-mul q) in
     ef ∙ ap (framed test (place * q + q)) eb ∙ framed-again test (place * q) (place * q + q) old (omega arith) within ∙ ap (λ m. framed test m old) next

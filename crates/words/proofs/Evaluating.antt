@@ -29,7 +29,7 @@ module _ (f : Tables) (laws : Lawful f) (number x : ℕ) (below : x < f .order) 
 
   -- the next turn
   pub next-turn : (term raised′ sum′ : ℕ) → term ≡ f .times (rest % f .order) raised → raised′ ≡ f .times raised x → sum′ ≡ f .plus sum term
-    → Turn f number x (j + 1) (rest / f .order) raised′ sum′
+      → Turn f number x (j + 1) (rest / f .order) raised′ sum′
   unfolding power value
   next-turn term raised′ sum′ et er es =
       let digit-is : rest % f .order ≡ digit (f .order) number j = ap (λ r. r % f .order) (turn .rest-is) in

@@ -8,12 +8,12 @@ use Rattle.words.specs.Words.{power, value}
 pub worked-examples : Worked-examples
 unfolding prime product remainder all-below power value
 worked-examples = record {
-    two-times-three = refl;
-    three-times-three = refl;
-    record-of-plan-A = refl;
-    word-0-of-A = refl;
-    symbols-of-7-of-A = refl;
-    word-7-of-A = refl;
-    symbols-of-9-of-B = refl;
-    word-9-of-B = refl;
-  }
+  two-times-three = refl;
+  three-times-three = refl;
+  record-of-plan-A = refl;
+  word-0-of-A = refl;
+  symbols-of-7-of-A = refl;
+  word-7-of-A = refl;
+  symbols-of-9-of-B = refl;
+  word-9-of-B = refl;
+}

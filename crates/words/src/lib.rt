@@ -14,3 +14,7 @@ pub use record::NameKindPartialEq;
 pub use record::PlanRecord;
 pub use record::PlanRecordDebug;
 pub use record::PlanRecordPartialEq;
+pub use word::place_and_symbol;
+pub use word::slot;
+pub use word::symbol;
+pub use word::write_word;

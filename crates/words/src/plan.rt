@@ -7,9 +7,9 @@ ghost use Rattle.std.specs.Options.{Cases as BySome};
 ghost use Rattle.std.specs.Results.{Cases};
 ghost use Rattle.std.specs.declared.option.Option.the-variants.{None, Some};
 ghost use Rattle.words.specs.Plans.{plan-refusal, plan-exists};
-use faults::refuse_unless;
 use faults::Fault;
 use faults::Refusal;
+use faults::refuse_unless;
 
 /// The numbers that settle how cards speak on the wire.
 ///
@@ -42,7 +42,14 @@ impl Plan {
         };
         let burden = d as u64 * (k as u64 - 1) + 2 * e as u64;
         refuse_unless(burden < n as u64, Refusal::Distance, burden)?;
-        Ok(Plan { q, n, k, d, e, cards })
+        Ok(Plan {
+            q,
+            n,
+            k,
+            d,
+            e,
+            cards,
+        })
     }
 
     /// The order of the field.

@@ -7,9 +7,9 @@ ghost use Rattle.std.specs.declared.option.Option.the-variants.{None, Some};
 ghost use Rattle.faults.specs.Faults.{answer};
 ghost use Rattle.words.specs.Records.{parameter, record-refusal, record-of, record-bits, bits-refusal, reading, writing-refusal, written, Meant};
 use crate::plan::Plan;
-use faults::refuse_unless;
 use faults::Fault;
 use faults::Refusal;
+use faults::refuse_unless;
 use fields::AnyField;
 use fields::AnyFieldField;
 use fields::Field;
@@ -25,14 +25,40 @@ struct Part {
 }
 
 const KIND: Part = Part { place: 0, width: 2 };
+
 const PARAMETER: Part = Part { place: 2, width: 6 };
+
 const PLACES: Part = Part { place: 8, width: 7 };
-const COEFFICIENTS: Part = Part { place: 15, width: 3 };
-const TOGETHER: Part = Part { place: 18, width: 6 };
-const WRONG: Part = Part { place: 24, width: 5 };
-const NAMES: Part = Part { place: 29, width: 1 };
-const ZERO_30: Part = Part { place: 30, width: 1 };
-const ZERO_31: Part = Part { place: 31, width: 1 };
+
+const COEFFICIENTS: Part = Part {
+    place: 15,
+    width: 3,
+};
+
+const TOGETHER: Part = Part {
+    place: 18,
+    width: 6,
+};
+
+const WRONG: Part = Part {
+    place: 24,
+    width: 5,
+};
+
+const NAMES: Part = Part {
+    place: 29,
+    width: 1,
+};
+
+const ZERO_30: Part = Part {
+    place: 30,
+    width: 1,
+};
+
+const ZERO_31: Part = Part {
+    place: 31,
+    width: 1,
+};
 
 impl Part {
     /// The value that the part holds in 32 bits.
@@ -135,7 +161,11 @@ fn checked(bits: u32) -> Result<PlanRecord, Fault>
 {
     refuse_unless(ZERO_30.held(bits) == 0, Refusal::Spare, 30)?;
     refuse_unless(ZERO_31.held(bits) == 0, Refusal::Spare, 31)?;
-    refuse_unless(KIND.held(bits) <= 1, Refusal::Field, PARAMETER.held(bits) as u64)?;
+    refuse_unless(
+        KIND.held(bits) <= 1,
+        Refusal::Field,
+        PARAMETER.held(bits) as u64,
+    )?;
     let record = unpacked(bits);
     record.field_and_plan()?;
     Ok(record)

@@ -9,9 +9,9 @@ ghost use Rattle.faults.specs.Faults.{answer};
 ghost use Rattle.std.specs.declared.option.Option.the-variants.{None};
 ghost use Rattle.std.specs.declared.result.Result.the-variants.{Ok};
 use crate::plan::Plan;
-use faults::refuse_unless;
 use faults::Fault;
 use faults::Refusal;
+use faults::refuse_unless;
 use fields::Field;
 use frames::fits;
 use frames::put;
@@ -30,7 +30,11 @@ fn addressed<F: Field>(field: &F, plan: &Plan, number: u32, place: u32) -> Resul
 {
     same_order(field, plan)?;
     refuse_unless(number < plan.cards(), Refusal::Card, number as u64)?;
-    refuse_unless(place < plan.n(), Refusal::Slot, place as u64 * plan.q() as u64)
+    refuse_unless(
+        place < plan.n(),
+        Refusal::Slot,
+        place as u64 * plan.q() as u64,
+    )
 }
 
 /// The symbol of a number's word at a place. The checks, in order: a field of another order (1, with that order), a
@@ -63,7 +67,12 @@ pub fn place_and_symbol<F: Field>(field: &F, plan: &Plan, slot: u32) -> Result<(
 /// Writes a number's word into a packed frame: the frame's slots are then the word's, and its spare bits stay. The
 /// checks, in order: a field of another order (1, with that order), a frame of the wrong length (5, with its length), a
 /// number without a word (9, with the number).
-pub fn write_word<F: Field>(field: &F, plan: &Plan, number: u32, frame: &mut [u8]) -> Result<(), Fault>
+pub fn write_word<F: Field>(
+    field: &F,
+    plan: &Plan,
+    number: u32,
+    frame: &mut [u8],
+) -> Result<(), Fault>
     ensures answer { λ r. ⌜ r ≡ answer (word-refusal (F·Field .tables (now (field .entry))) (now (plan .entry)) number (now (frame .entry))) tt ⌝ }
     ensures after { λ _. ⌜ now (frame .exit) ≡ word-frame (F·Field .tables (now (field .entry))) (now (plan .entry)) number (now (frame .entry)) ⌝ }
 {

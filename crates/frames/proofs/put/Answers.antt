@@ -10,6 +10,6 @@ use Rattle.frames.proofs.put.Needs as need
 
 pub returns-then-place-frame : need.returns-then-place-frame
 returns-then-place-frame c = record {
-    answer = ap Err (c .new .ensures) ∙ sym (cond-false _ _ _ (le-ltb (c .args .slot) (8 * length (c .args .frame .now)) (omega arith)));
-    after = sym (set-out (c .args .frame .now) _ _ (c .if-place-frame .taken));
-  }
+  answer = ap Err (c .new .ensures) ∙ sym (cond-false _ _ _ (le-ltb (c .args .slot) (8 * length (c .args .frame .now)) (omega arith)));
+  after = sym (set-out (c .args .frame .now) _ _ (c .if-place-frame .taken));
+}

@@ -11,6 +11,7 @@ unfolding product
 loop-i-holds c = (lit< tt, refl)
 
 pub loop-i-again : need.loop-i-again
-loop-i-again c =
-    (sum-below (c .args .a) (c .args .m) (c .loop-i .i) _ (c .pre .1 .0) (omega arith) (c .loop-i .sum) (c .loop-i .inv .0),
-     product-more (c .args .a) (c .args .b) (c .args .m) (c .loop-i .i) (c .loop-i .sum) (c .pre .1 .0) (omega arith) (c .loop-i .inv .1))
+loop-i-again c = (
+  sum-below (c .args .a) (c .args .m) (c .loop-i .i) _ (c .pre .1 .0) (omega arith) (c .loop-i .sum) (c .loop-i .inv .0),
+  product-more (c .args .a) (c .args .b) (c .args .m) (c .loop-i .i) (c .loop-i .sum) (c .pre .1 .0) (omega arith) (c .loop-i .inv .1),
+)

@@ -9,10 +9,11 @@ use Rattle.fields.proofs.binary.reduced.Needs as need
 pub loop-i-again : need.loop-i-again
 loop-i-again c =
     let i = c .loop-i .i - 1 in
-    let next : suc i ≡ c .loop-i .i = omega arith in
-    (sum-below (c .args .modulus) 7 i _ (c .pre .1 .0) (omega arith) (c .loop-i .rest) (c .loop-i .inv .0),
-     remainder-more (c .args .m) (c .args .modulus) i (c .loop-i .rest) (c .pre .1 .0) (omega arith)
-     ∙ ap (λ n. remainder (c .args .m) (c .args .modulus) n (c .loop-i .rest)) next ∙ c .loop-i .inv .1)
+    let next : suc i ≡ c .loop-i .i = omega arith in (
+      sum-below (c .args .modulus) 7 i _ (c .pre .1 .0) (omega arith) (c .loop-i .rest) (c .loop-i .inv .0),
+      remainder-more (c .args .m) (c .args .modulus) i (c .loop-i .rest) (c .pre .1 .0) (omega arith)
+          ∙ ap (λ n. remainder (c .args .m) (c .args .modulus) n (c .loop-i .rest)) next ∙ c .loop-i .inv .1,
+    )
 
 pub returns : need.returns
 unfolding remainder

@@ -15,11 +15,13 @@ returns-then-branch-eq1 g c =
 pub loop-b-again : need.loop-b-again
 loop-b-again g c =
     let f = g .P·Products .tables (c .args .field .now) in
-    let v = table-value (f .order) (f .times) (c .args .a) (c .loop-b .b) (c .in-Continue-times .field-0) (c .in-Continue-times .ensures tt) in
-    (λ _. v .0, λ k positive below e. elim (cases-eq k (c .loop-b .b)) [
-        inl same ↦ c .if-branch-eq1 .left (v .2 ∙ (rw same at e))
-      | inr other ↦ c .loop-b .inv .1 k positive (omega arith) e
-      ])
+    let v = table-value (f .order) (f .times) (c .args .a) (c .loop-b .b) (c .in-Continue-times .field-0) (c .in-Continue-times .ensures tt) in (
+      λ _. v .0,
+      λ k positive below e. elim (cases-eq k (c .loop-b .b)) [
+        | inl same ↦ c .if-branch-eq1 .left (v .2 ∙ (rw same at e))
+        | inr other ↦ c .loop-b .inv .1 k positive (omega arith) e
+      ],
+    )
 
 pub returns : need.returns
 returns g c =

@@ -13,8 +13,8 @@ returns-then-p-d-eq0 c = divided (c .args .p) (c .loop-d .d) (omega arith) (c .l
 pub loop-d-again : need.loop-d-again
 loop-d-again c = λ k h e.
     elim (cases-eq (k + 2) (c .loop-d .d)) [
-      inl same ↦ c .if-p-d-eq0 .left (rw same at e)
-    | inr other ↦ c .loop-d .inv k (omega arith) e
+      | inl same ↦ c .if-p-d-eq0 .left (rw same at e)
+      | inr other ↦ c .loop-d .inv k (omega arith) e
     ]
 
 pub returns : need.returns

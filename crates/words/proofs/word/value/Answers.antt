@@ -10,10 +10,10 @@ use Rattle.words.proofs.word.value.Needs as need
 pub loop-j-holds : need.loop-j-holds
 unfolding power value
 loop-j-holds g c = record {
-    rest-is = sym (ap (λ p. c .args .number / p) (pow-zero _) ∙ div-one (c .args .number));
-    raised-is = refl;
-    sum-is = refl;
-  }
+  rest-is = sym (ap (λ p. c .args .number / p) (pow-zero _) ∙ div-one (c .args .number));
+  raised-is = refl;
+  sum-is = refl;
+}
 
 pub returns-in-Break-product : need.returns-in-Break-product
 returns-in-Break-product g c =
@@ -21,7 +21,7 @@ returns-in-Break-product g c =
     let laws = g .F·Field·met .lawful (c .args .field .now) in
     let t = c .loop-j .inv in
     absurd (table-accepts (f .order) (f .times) _ _ _ (digit-is-element f laws _ _ (c .pre) t) (raised-is-element f laws _ _ (c .pre) t)
-      (rw (c .order-q .ensures) at (c .in-Break-product .ensures tt)))
+    (rw (c .order-q .ensures) at (c .in-Break-product .ensures tt)))
 
 pub returns-in-Break-sum : need.returns-in-Break-sum
 returns-in-Break-sum g c =
@@ -30,7 +30,7 @@ returns-in-Break-sum g c =
     let t = c .loop-j .inv in
     let term = table-value (f .order) (f .times) _ _ _ (c .in-Continue-product .ensures tt) in
     absurd (table-accepts (f .order) (f .plus) _ _ _ (sum-is-element f laws _ _ (c .pre) t) (rw (term .2) (laws .products-stay-below _ _ (term .0) (term .1)))
-      (c .in-Break-sum .ensures tt))
+    (c .in-Break-sum .ensures tt))
 
 pub loop-j-again : need.loop-j-again
 loop-j-again g c =

@@ -28,7 +28,7 @@ returns-in-Break-field-and-plan c =
     let r = c .args .self .now in
     let target = c .args .target .now in
     let refused : writing-refusal r (length target) ≡ Some (c .in-Break-field-and-plan .field-0 .0) =
-      check-accepts _ _ _ (record-refusal r) (c .in-Continue-refuse-unless .ensures tt) ∙ c .in-Break-field-and-plan .ensures tt in
+    check-accepts _ _ _ (record-refusal r) (c .in-Continue-refuse-unless .ensures tt) ∙ c .in-Break-field-and-plan .ensures tt in
     record {
       answer = rw (p .1, p .2) (answer-refused _ tt _ refused);
       after = sym (ap (λ o. cond (isSome o) target (record-bytes r)) refused);
