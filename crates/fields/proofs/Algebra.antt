@@ -2,8 +2,6 @@
 use Prim.Native.Nat.{ℕ, _<_}
 use native.Mathlib.Omega.{arith}
 use mathlib.Core.Path.{_≡_, sym, _∙_}
-use mathlib.Core.Logic.{_⊎_, inl, inr}
-use Rattle.std.proofs.shelf.Tests.{cases-eq}
 use Rattle.fields.specs.Lawful.{Tables, Lawful}
 
 module _ (f : Tables) (l : Lawful f) where
@@ -19,16 +17,6 @@ module _ (f : Tables) (l : Lawful f) where
   pub one-is-neutral-right : (a : ℕ) → a < f .order → f .times a 1 ≡ a
   one-is-neutral-right a ha = l .products-commute a 1 ha (l .one-is-an-element) ∙ l .one-is-neutral a ha
 
-  -- products distribute on the right
-  pub products-distribute-right : (a b c : ℕ) → a < f .order → b < f .order → c < f .order
-      → f .times (f .plus a b) c ≡ f .plus (f .times a c) (f .times b c)
-  products-distribute-right a b c ha hb hc =
-      let e₁ = l .products-commute (f .plus a b) c (l .sums-stay-below a b ha hb) hc in
-      let e₂ = l .products-distribute c a b hc ha hb in
-      let e₃ = l .products-commute c a hc ha in
-      let e₄ = l .products-commute c b hc hb in
-      cc
-
   -- a summand on the left cancels
   pub sums-cancel : (a b c : ℕ) → a < f .order → b < f .order → c < f .order → f .plus a b ≡ f .plus a c → b ≡ c
   sums-cancel a b c ha hb hc e =
@@ -39,11 +27,6 @@ module _ (f : Tables) (l : Lawful f) where
       let e₃ = l .zero-is-neutral b hb in
       let e₄ = l .zero-is-neutral c hc in
       cc
-
-  -- a summand on the right cancels
-  pub sums-cancel-right : (a b c : ℕ) → a < f .order → b < f .order → c < f .order → f .plus b a ≡ f .plus c a → b ≡ c
-  sums-cancel-right a b c ha hb hc e =
-      sums-cancel a b c ha hb hc (l .sums-commute a b ha hb ∙ (e ∙ l .sums-commute c a hc ha))
 
   -- a product by 0 is 0
   pub zero-absorbs : (a : ℕ) → a < f .order → f .times a 0 ≡ 0
@@ -69,27 +52,6 @@ module _ (f : Tables) (l : Lawful f) where
       let e₃ = l .one-is-neutral b hb in
       let e₄ = l .one-is-neutral c hc in
       cc
-
-  -- a factor that is not 0 cancels on the right
-  pub products-cancel-right : (a b c : ℕ) → 0 < a → a < f .order → b < f .order → c < f .order → f .times b a ≡ f .times c a → b ≡ c
-  products-cancel-right a b c pos ha hb hc e =
-      products-cancel a b c pos ha hb hc (l .products-commute a b ha hb ∙ (e ∙ l .products-commute c a hc ha))
-
-  -- a product is 0 only where a factor is
-  pub no-zero-divisors : (a b : ℕ) → a < f .order → b < f .order → f .times a b ≡ 0 → (a ≡ 0) ⊎ (b ≡ 0)
-  no-zero-divisors a b ha hb e =
-      elim (cases-eq a 0) [
-        | inl z ↦ inl z
-        | inr p ↦ inr (products-cancel a b 0 (omega arith) ha hb zero-is-an-element (e ∙ sym (zero-absorbs a ha)))
-      ]
-
-  -- a product of factors that are not 0 is not 0
-  pub products-stay-nonzero : (a b : ℕ) → 0 < a → 0 < b → a < f .order → b < f .order → 0 < f .times a b
-  products-stay-nonzero a b pa pb ha hb =
-      elim (cases-eq (f .times a b) 0) [
-        | inl z ↦ elim (no-zero-divisors a b ha hb z) [ inl p ↦ omega arith | inr p ↦ omega arith ]
-        | inr p ↦ omega arith
-      ]
 
   -- an element has one negative
   pub one-negative : (a b c : ℕ) → a < f .order → b < f .order → c < f .order → f .plus a b ≡ 0 → f .plus a c ≡ 0 → b ≡ c

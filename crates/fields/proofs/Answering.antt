@@ -28,15 +28,6 @@ element-ok q a v e = elim (cases-lt a q) [
 pub table-ok : (q : ℕ) (table : ℕ → ℕ → ℕ) (a b : ℕ) → a < q → b < q → table-answer q table a b ≡ Ok (table a b)
 table-ok q table a b ha hb = cond-true (ltb a q) _ _ (lt-ltb a q ha) ∙ cond-true (ltb b q) _ _ (lt-ltb b q hb)
 
--- a value that is the table's at two accepted indices is the answer
-pub table-answered : (q : ℕ) (table : ℕ → ℕ → ℕ) (a b a′ b′ v : ℕ) → Ok a′ ≡ element-answer q a → Ok b′ ≡ element-answer q b
-    → (a′ < q → b′ < q → v ≡ table a′ b′) → Ok v ≡ table-answer q table a b
-table-answered q table a b a′ b′ v ea eb h =
-    let ka = element-ok q a a′ ea in
-    let kb = element-ok q b b′ eb in
-    let e = h (omega (arith, ka .0, ka .1)) (omega (arith, kb .0, kb .1)) in
-    ap Ok (e ∙ ap (λ x. table x b′) (ka .0) ∙ ap (table a) (kb .0)) ∙ sym (table-ok q table a b (ka .1) (kb .1))
-
 module _ (f : Tables) (laws : Lawful f) where
   -- what adds up with a to 0 is its negative
   negative-is : (a v : ℕ) → a < f .order → v < f .order → f .plus a v ≡ 0 → v ≡ negative-of f a

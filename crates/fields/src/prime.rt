@@ -1,6 +1,7 @@
 //! Prime fields: sums and products modulo a prime.
 ghost use mathlib.Core.Path.{_≡_};
 ghost use mathlib.Core.Bool.{true, false};
+ghost use Prim.Native.Nat.{_*_, _%_, _<_};
 ghost use Rattle.std.specs.Results.{Cases};
 ghost use Rattle.faults.specs.Faults.{fault};
 ghost use Rattle.faults.specs.declared.refusal.Refusal.the-variants.{Field as NoField};
@@ -44,6 +45,14 @@ fn is_prime(p: u32) -> bool
     p >= 2
 }
 
+/// The remainder by p of a number below 2p.
+fn reduced_once(s: u32, p: u32) -> u32
+    requires { ⌜ s < 2 * p ⌝ }
+    ensures { λ r. ⌜ r ≡ s % p ⌝ }
+{
+    if s < p { s } else { s - p }
+}
+
 impl Products for Prime as PrimeProducts {
     ghost tables = { λ f. prime-tables (f .p) };
 
@@ -62,14 +71,13 @@ pub impl Field for Prime as PrimeField {
     ghost tables = { λ f. prime-tables (f .p) };
 
     fn order(&self) -> u32 {
-        self.p
+        self.elements()
     }
 
     fn sum(&self, a: u32, b: u32) -> Result<u32, Fault> {
         let a = element(self.p, a)?;
         let b = element(self.p, b)?;
-        let s = a + b;
-        Ok(if s < self.p { s } else { s - self.p })
+        Ok(reduced_once(a + b, self.p))
     }
 
     fn negative(&self, a: u32) -> Result<u32, Fault> {

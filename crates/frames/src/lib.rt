@@ -4,7 +4,7 @@
 ghost use mathlib.Core.Path.{_≡_};
 ghost use Prim.Native.Nat.{_*_, _<_};
 ghost use lib.ListN.{length};
-ghost use Rattle.frames.specs.Frames.{stands, with-bit, with-slot, slot-answer, bytes-for, length-answer, frame-distance, distance-answer};
+ghost use Rattle.frames.specs.Frames.{bit-set, stands, with-bit, with-slot, slot-answer, bytes-for, length-answer, frame-distance, distance-answer};
 ghost use Rattle.std.specs.declared.result.Result.the-variants.{Ok};
 use faults::Fault;
 use faults::Refusal;
@@ -24,7 +24,7 @@ pub fn look(frame: &[u8], slot: u32) -> Result<bool, Fault>
     if place >= frame.len() {
         return Err(Fault::new(Refusal::Slot, slot as u64));
     }
-    Ok(frame[place] >> (7 - slot % 8) & 1 == 1)
+    Ok(bit_set(frame[place], 7 - slot % 8))
 }
 
 /// Makes a slot stand or be clear, and alters no other bit. A slot past the last byte is refused with 7 and the slot.
@@ -38,6 +38,14 @@ pub fn put(frame: &mut [u8], slot: u32, standing: bool) -> Result<(), Fault>
     }
     frame[place] = with_bit(frame[place], 7 - slot % 8, standing);
     Ok(())
+}
+
+/// Whether one bit of a byte is set.
+fn bit_set(byte: u8, i: u32) -> bool
+    requires { ⌜ i < 8 ⌝ }
+    ensures { λ r. ⌜ r ≡ bit-set byte i ⌝ }
+{
+    byte >> i & 1 == 1
 }
 
 /// A byte with one bit set or cleared.

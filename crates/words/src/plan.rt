@@ -98,7 +98,8 @@ impl Plan {
     pub fn slots(&self) -> u32
         ensures { λ r. ⌜ r ≡ now (self .entry) .n * now (self .entry) .q ⌝ }
     {
-        self.n * self.q
+        let places = self.n;
+        places * self.q
     }
 }
 

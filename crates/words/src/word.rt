@@ -43,7 +43,8 @@ pub fn symbol<F: Field>(field: &F, plan: &Plan, number: u32, place: u32) -> Resu
     ensures { λ r. ⌜ r ≡ answer (symbol-refusal (F·Field .tables (now (field .entry))) (now (plan .entry)) number place) (symbol (F·Field .tables (now (field .entry))) (now (plan .entry) .k) number place) ⌝ }
 {
     addressed(field, plan, number, place)?;
-    value(field, plan.k(), number, place)
+    let k = plan.k();
+    value(field, k, number, place)
 }
 
 /// The slot of a number's word at a place, after the checks of `symbol`.
