@@ -15,6 +15,7 @@ pub use record::PlanRecord;
 pub use record::PlanRecordDebug;
 pub use record::PlanRecordPartialEq;
 pub use word::place_and_symbol;
+pub use word::same_order;
 pub use word::slot;
 pub use word::symbol;
 pub use word::write_word;

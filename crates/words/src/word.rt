@@ -16,8 +16,9 @@ use fields::Field;
 use frames::fits;
 use frames::put;
 
-/// Accepts a field of the plan's order; any other is refused with 1 and its order.
-fn same_order<F: Field>(field: &F, plan: &Plan) -> Result<(), Fault>
+/// Accepts a field of the plan's order; any other is refused with 1 and its order. Every call that works by a plan makes
+/// this check before all others.
+pub fn same_order<F: Field>(field: &F, plan: &Plan) -> Result<(), Fault>
     ensures { λ r. ⌜ r ≡ answer (order-check (F·Field .tables (now (field .entry))) (now (plan .entry)) None) tt ⌝ }
 {
     let order = field.order();
