@@ -1,0 +1,4 @@
+pub mod Deciding
+pub mod Distances
+pub mod Overlaps
+pub mod Sets

@@ -1,0 +1,4 @@
+pub mod Distances
+pub mod Promises
+pub mod Sets
+pub mod Verdicts
