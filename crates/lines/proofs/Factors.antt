@@ -6,19 +6,18 @@ use mathlib.Core.Logic.{inl, inr}
 use native.Mathlib.Nat.{mul-comm, mul-assoc, mul-add, mul-sub, mul-one, mul-zero, mod-lt, mod-self, mod-eq-of-lt, mod-add-div, mod-mod-of-dvd, dvd-of-mod-eq-zero, add-mul-mod-self-left, mul-mod-right, mul-mod-left, eq-of-mul-eq-mul-left, mul-le-mul-left}
 use native.Mathlib.Omega.{arith}
 use lib.Dec.{eqb, ltb}
-use Rattle.std.proofs.shelf.Tests.{cases-eq, cases-bool, cases-order, and-parts, and-from, and-left, and-right, ltb-true, eqb-true, eqb-false, lt-ltb, le-ltb, eq-eqb, ne-eqb, true≢false}
-use Rattle.frames.specs.Counting.{count}
+use Rattle.std.proofs.shelf.Tests.{cases-eq, cases-bool, cases-order, and-parts, and-from, and-left, and-right, ltb-true, eqb-true, lt-ltb, le-ltb, eq-eqb, ne-eqb}
 use Rattle.frames.proofs.Counting.{count-some, count-none}
 use Rattle.lines.specs.Stride.{divides-both, shared-factors}
 
 -- what a common divisor is
-pub divisor-facts : (a n d : ℕ) → divides-both a n d ≡ true → (1 < d) × (a % d ≡ 0) × (n % d ≡ 0)
+divisor-facts : (a n d : ℕ) → divides-both a n d ≡ true → (1 < d) × (a % d ≡ 0) × (n % d ≡ 0)
 divisor-facts a n d e =
     let p = and-parts (ltb 1 d) (eqb (a % d) 0 && eqb (n % d) 0) e in
     let q = and-parts (eqb (a % d) 0) (eqb (n % d) 0) (p .1) in
     (ltb-true 1 d (p .0), eqb-true (a % d) 0 (q .0), eqb-true (n % d) 0 (q .1))
 
-pub divisor-from : (a n d : ℕ) → 1 < d → a % d ≡ 0 → n % d ≡ 0 → divides-both a n d ≡ true
+divisor-from : (a n d : ℕ) → 1 < d → a % d ≡ 0 → n % d ≡ 0 → divides-both a n d ≡ true
 divisor-from a n d above p q =
     and-from (ltb 1 d) _ (lt-ltb 1 d above) (and-from (eqb (a % d) 0) (eqb (n % d) 0) (eq-eqb (a % d) 0 p) (eq-eqb (n % d) 0 q))
 
@@ -36,7 +35,7 @@ divisors-step x y d = ap (λ b. ltb 1 d && b) (elim (cases-eq (y % d) 0) [
     swap false false = refl
 
 -- a number that divides both is counted
-pub factor-counted : (a n d : ℕ) → 0 < a → divides-both a n d ≡ true → 0 < shared-factors a n
+factor-counted : (a n d : ℕ) → 0 < a → divides-both a n d ≡ true → 0 < shared-factors a n
 factor-counted a n d positive e =
     let f = divisor-facts a n d e in
     let rest = mod-add-div a d in

@@ -1,5 +1,5 @@
 -- What the calls of a level line give. Assumes nothing.
-use Prim.Native.Nat.{ℕ, min, _+_, _<_, _≤_}
+use Prim.Native.Nat.{ℕ, min, _+_, _<_}
 use mathlib.Core.Path.{_≡_, refl, sym, ap, _∙_}
 use mathlib.Core.Bool.{Bool, true, false}
 use mathlib.Core.List.{List, map}

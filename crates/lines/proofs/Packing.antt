@@ -1,5 +1,5 @@
 -- What the calls of a packed line give. Assumes nothing.
-use Prim.Native.Nat.{ℕ, _+_, _*_, _<_, _≤_}
+use Prim.Native.Nat.{ℕ, _*_, _<_, _≤_}
 use mathlib.Core.Path.{_≡_, refl, sym, ap, _∙_}
 use mathlib.Core.Bool.{Bool, false}
 use mathlib.Core.List.{List, map}
@@ -20,7 +20,7 @@ pub carried : (bytes : List ℕ) (told s : ℕ) → s < length (packed-row bytes
 carried bytes told s h = omega (arith, packed-length bytes told)
 
 -- a slot of the row is written in its byte
-pub after-within : (bytes : List ℕ) (told s : ℕ) (b : Bool) → s < length (packed-row bytes told) → packed-after bytes told s b ≡ with-slot bytes s b
+after-within : (bytes : List ℕ) (told s : ℕ) (b : Bool) → s < length (packed-row bytes told) → packed-after bytes told s b ≡ with-slot bytes s b
 after-within bytes told s b within = cond-true _ _ _ (lt-ltb s (length (packed-row bytes told)) within)
 
 -- a slot past the row changes nothing

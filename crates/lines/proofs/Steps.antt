@@ -1,7 +1,7 @@
 -- What the calls of a stride line give. Assumes nothing.
-use Prim.Native.Nat.{ℕ, _+_, _*_, _%_, _<_, _≤_}
+use Prim.Native.Nat.{ℕ, _*_, _<_, _≤_}
 use mathlib.Core.Path.{_≡_, refl, sym, ap, _∙_}
-use mathlib.Core.Bool.{Bool, true, false, cond, _&&_}
+use mathlib.Core.Bool.{Bool, false, _&&_}
 use mathlib.Core.List.{List}
 use mathlib.Core.Logic.{inl, inr}
 use native.Mathlib.Nat.{mod-lt}
@@ -15,13 +15,12 @@ use Rattle.std.specs.declared.result.Result.{Result}
 use Rattle.std.specs.declared.result.Result.the-variants.{Ok}
 use Rattle.faults.specs.declared.fault.Fault.{Fault}
 use Rattle.frames.specs.Frames.{slot-answer}
-use Rattle.lines.specs.Lines.{row-over}
 use Rattle.lines.specs.Stride.{shared-factors, strides, stride-slots, stride-place, stride-row}
 use Rattle.lines.proofs.Factors.{steps-apart}
 use Rattle.lines.proofs.Rows.{answered-alike, went-on, over-within, over-getD, over-set}
 
 -- a stride that gives slots is in its range and shares no factor with their count
-pub stride-facts : (a n s : ℕ) → n ≡ stride-slots a n → s < n → (0 < a) × (a < 4096) × (shared-factors a n ≡ 0)
+stride-facts : (a n s : ℕ) → n ≡ stride-slots a n → s < n → (0 < a) × (a < 4096) × (shared-factors a n ≡ 0)
 stride-facts a n s found h = elim (cases-bool (strides a n)) [
   | inl steps ↦
       let p = and-parts (ltb 0 a) (ltb a 4096 && eqb (shared-factors a n) 0) steps in
@@ -32,7 +31,7 @@ stride-facts a n s found h = elim (cases-bool (strides a n)) [
 
 module _ (a n : ℕ) (below : List Bool) (s : ℕ) (found : n ≡ stride-slots a n) (h : s < length (stride-row a n below)) where
   -- the slot below is one of the line below
-  pub place-within : (length below ≡ n) × (s < n) × (stride-place a n s < length below)
+  place-within : (length below ≡ n) × (s < n) × (stride-place a n s < length below)
   place-within =
       let p = over-within (length below) n (λ i. getD below (stride-place a n i) false) s h in
       (p .0, p .1, rw (p .0) (mod-lt (a * s) {m = n} (omega (arith, p .1))))
@@ -45,7 +44,7 @@ module _ (a n : ℕ) (below : List Bool) (s : ℕ) (found : n ≡ stride-slots a
       omega (arith, mul-lt a s 4096 4096 (q .1) (omega (arith, p .0, p .1)))
 
   -- a written slot below is a written slot, and no other
-  pub stride-set : (b : Bool) → stride-row a n (set below (stride-place a n s) b) ≡ set (stride-row a n below) s b
+  stride-set : (b : Bool) → stride-row a n (set below (stride-place a n s) b) ≡ set (stride-row a n below) s b
   stride-set b =
       let p = place-within in
       let q = stride-facts a n s found (p .1) in

@@ -1,9 +1,8 @@
 -- Inverted lines. Assumes nothing.
-use Prim.Native.Nat.{ℕ, _≤_}
 use mathlib.Core.Bool.{Bool, not}
 use mathlib.Core.List.{List, map}
-use mathlib.Core.Path.{_≡_, sym, _∙_}
-use lib.ListN.{length, length-map}
+use mathlib.Core.Path.{sym, _∙_}
+use lib.ListN.{length-map}
 use Rattle.lines.specs.Lines.{Laws}
 
 -- the row of an inverted line: a slot stands where the slot below is clear

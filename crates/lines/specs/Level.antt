@@ -1,5 +1,5 @@
 -- Level lines: rows of slots carried in levels, one a slot. Assumes nothing.
-use Prim.Native.Nat.{ℕ, min, _+_, _≤_}
+use Prim.Native.Nat.{ℕ, min, _+_}
 use mathlib.Core.Bool.{Bool, cond}
 use mathlib.Core.List.{List, map}
 use mathlib.Core.Path.{_≡_, refl, sym, ap, _∙_}
@@ -7,7 +7,7 @@ use native.Mathlib.Omega.{arith}
 use lib.Dec.{ltb}
 use lib.ListN.{length, getD, set, take, drop, length-map, length-take}
 use denote.Ref.{name, now}
-use Rattle.lines.specs.Lines.{Laws, written}
+use Rattle.lines.specs.Lines.{Laws, reaching}
 use Rattle.lines.specs.declared.level.Level.{Level}
 
 -- the row of the first 4,096 levels at most: a slot stands when its level is above 0
@@ -20,7 +20,7 @@ level-put level b = cond b (min (level + 1) 65535) 0
 
 -- the levels after a slot was driven or dropped: one level is written, and past the row none
 abbrev pub level-after : List ℕ → ℕ → Bool → List ℕ
-level-after levels s b = written (length (level-row levels)) s (set levels s (level-put (getD levels s 0) b)) levels
+level-after levels s b = reaching (length (level-row levels)) s (set levels s (level-put (getD levels s 0) b)) levels
 
 -- what a level line means
 abbrev pub level-means : Level → List Bool

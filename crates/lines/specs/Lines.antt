@@ -19,9 +19,9 @@ pub record Laws {S : Type 0} (row : S → List Bool) (kept : S → S → Type 0)
   -- and so does one that is called twice
   pub onward : (k l m : S) → kept k l → kept l m → kept k m
 
--- what stands after a call on slot s of a row of so many slots: a slot past the row changes nothing
-abbrev pub written : {A : Type 0} → ℕ → ℕ → A → A → A
-written slots s new old = cond (ltb s slots) new old
+-- what a call on slot s of a row of so many slots leaves: the new where the slot is one of the row, and past the row the old
+abbrev pub reaching : {A : Type 0} → ℕ → ℕ → A → A → A
+reaching slots s new old = cond (ltb s slots) new old
 
 -- that slot s of a line was made to stand or to be clear: its row has the slot so, and the memory behind it is as its kind says
 abbrev pub Written : {L : Type 0} → (L → List Bool) → (L → ℕ → Bool → L → Type 0) → L → ℕ → Bool → L → Type 0

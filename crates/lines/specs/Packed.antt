@@ -1,5 +1,5 @@
 -- Packed lines: rows of slots carried in bytes. Assumes nothing.
-use Prim.Native.Nat.{ℕ, min, _+_, _*_, _≤_}
+use Prim.Native.Nat.{ℕ, min, _*_, _≤_}
 use mathlib.Core.Bool.{Bool}
 use mathlib.Core.List.{List, map}
 use mathlib.Core.Path.{_≡_, refl, sym, ap₂, _∙_}
@@ -9,7 +9,7 @@ use denote.Ref.{name, now}
 use Rattle.std.specs.Iters.{counting}
 use Rattle.std.proofs.shelf.Counted.{length-map-counting}
 use Rattle.frames.specs.Frames.{stands, with-slot}
-use Rattle.lines.specs.Lines.{Laws, written}
+use Rattle.lines.specs.Lines.{Laws, reaching}
 use Rattle.lines.specs.declared.packed.Packed.{Packed}
 
 -- how many slots so many bytes carry: as many as told, or 8 for each byte if fewer, and the first 4,096 at most
@@ -22,7 +22,7 @@ packed-row bytes told = map (stands bytes) (counting 0 (packed-slots (length byt
 
 -- the bytes after a slot was made to stand or to be clear: one bit is written, and past the row none
 abbrev pub packed-after : List ℕ → ℕ → ℕ → Bool → List ℕ
-packed-after bytes told s b = written (length (packed-row bytes told)) s (with-slot bytes s b) bytes
+packed-after bytes told s b = reaching (length (packed-row bytes told)) s (with-slot bytes s b) bytes
 
 -- what a packed line means
 abbrev pub packed-means : Packed → List Bool

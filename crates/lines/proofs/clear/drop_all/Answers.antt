@@ -1,9 +1,8 @@
 -- No slot below the count is refused, and each turn drops one more.
 use Prim.Native.Nat.{_<_}
-use mathlib.Core.Path.{_≡_, refl, ap, _∙_}
-use mathlib.Core.Bool.{false}
+use mathlib.Core.Path.{refl}
 use native.Mathlib.Omega.{arith}
-use lib.ListN.{length, take, replicate}
+use lib.ListN.{length}
 use Rattle.frames.proofs.Slots.{slot-accepts}
 use Rattle.lines.proofs.Clearing.{cleared-more, cleared-all}
 use Rattle.lines.proofs.clear.drop_all.Needs as need

@@ -1,4 +1,3 @@
-use Prim.Native.Nat.{ℕ, _%_}
 use mathlib.Core.Path.{refl, ap, _∙_}
 use native.Mathlib.Omega.{arith}
 use Rattle.lines.specs.Stride.{divides-both}
