@@ -1,12 +1,12 @@
 //! Hexadecimal text.
-ghost use Prim.Native.Nat.{_<_};
-ghost use Rattle.std.specs.Options.{Cases as BySome};
+ghost use mathlib.Core.Path.{_≡_};
+ghost use Rattle.cardsheet.specs.Digits.{digit-value};
 use std::alloc::AllocError;
 use std::alloc::Global;
 
 /// The value of a hexadecimal digit, in either case.
 fn digit(c: u8) -> Option<u8>
-    ensures { λ r. ⌜ BySome r (Unit {0}) (λ d. d < 16) ⌝ }
+    ensures { λ r. ⌜ r ≡ digit-value c ⌝ }
 {
     match c {
         b'0'..=b'9' => Some(c - b'0'),

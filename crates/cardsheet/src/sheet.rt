@@ -1,4 +1,6 @@
 //! The sheet of one card: its symbols, its slots and its word as a packed frame.
+ghost use Rattle.std.specs.Vec.{made};
+ghost use Rattle.cardsheet.specs.Sheets.{Right-sheet};
 use faults::Fault;
 use fields::Field;
 use frames::bytes_for;
@@ -53,7 +55,9 @@ pub fn sheet_of<F: Field>(
     field: &F,
     plan: &Plan,
     number: u32,
-) -> Result<Sheet, Failure> {
+) -> Result<Sheet, Failure>
+    ensures { λ r. ⌜ made r (Right-sheet (F·Field .tables (now (field .entry))) (now (plan .entry)) number) ⌝ }
+{
     let mut symbols = Vec::new(heap);
     let mut slots = Vec::new(heap);
     let mut frame = vec![in heap; 0u8; bytes_for(plan.slots()) as usize]?;
