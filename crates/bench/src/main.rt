@@ -4,6 +4,7 @@
 //! highest bit of a byte first, which is set where the number is enrolled under the extension number equal to it; then
 //! packed frames to the end. The program writes the verdict's line for each frame. Where the record, the bits or a frame
 //! are refused, or the input ends inside one of them, it writes the letter E and the refusal's number, and stops.
+#![tactic(auto)]
 
 mod buffer;
 mod input;

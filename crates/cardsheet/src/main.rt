@@ -2,6 +2,7 @@
 //!
 //! Standard input is text: on the first line a plan record as 8 hexadecimal digits, on each further line a card number.
 //! The program says what the record means, prints a sheet for each card, and says which lines it refused and why.
+#![tactic(auto)]
 
 mod hex;
 mod sheet;

@@ -1,4 +1,5 @@
 //! Tests of the libraries through their public calls: worked examples, and every refusal at its edge.
+#![tactic(auto)]
 
 #[cfg(test)]
 mod faults_tests;

@@ -2,6 +2,7 @@
 //!
 //! Every call of the reader that cannot do what it is asked answers a [`Fault`]: which rule refused, and the
 //! figure that tells what was wrong.
+#![tactic(auto)]
 
 pub mod fault;
 pub mod refusal;

@@ -2,6 +2,7 @@
 //!
 //! [`Field`] says what a field is; [`Prime`] and [`Binary`] are the two kinds that an exchange uses, and [`AnyField`]
 //! is a field of either kind.
+#![tactic(auto)]
 
 pub mod any;
 pub mod binary;

@@ -1,6 +1,8 @@
 //! Packed frames: rows of slots carried in bytes.
 //!
 //! Slot s is bit 7 - (s mod 8) of byte s div 8. Spare bits of the last byte are neither read nor altered.
+#![tactic(auto)]
+
 ghost use Rattle.std.specs.Prelude.{◌≡◌, ◌*◌, ◌<◌, length, Ok};
 ghost use Rattle.frames.specs.Frames.{bit_set, stands, with_bit, with_slot, slot_answer, bytes_for, length_answer, frame_distance, distance_answer};
 

@@ -2,6 +2,7 @@
 //!
 //! Whatever shows the meaning of a [`Line`] is one. The kinds of line of this crate nest in any way and depth, by value
 //! and over a lent line, and a line over others gives them back.
+#![tactic(auto)]
 
 pub mod clear;
 pub mod inverted;

@@ -1,4 +1,6 @@
 //! What a caller of lines knows of its own memory, proved, and tests of every kind of line at its edges.
+#![tactic(auto)]
+
 ghost use Rattle.std.specs.Prelude.{◌≡◌, true, false};
 ghost use Rattle.lines.specs.Level.{level_after};
 ghost use Rattle.lines.specs.Packed.{packed_after};

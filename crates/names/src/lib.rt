@@ -1,4 +1,5 @@
 //! Kinds of name: extension numbers and room labels.
+#![tactic(auto)]
 
 pub mod extension;
 pub mod name;

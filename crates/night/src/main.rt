@@ -3,6 +3,7 @@
 //! Extensions 0 to 80 are enrolled, the lodge at 0. Cards speak in frames, slots are knocked within and beyond what is
 //! borne, a frame is crowded, a card is struck and speaks all the same, and a close is refused. The program says what was
 //! done and what was read, and prints the statement of units: a frame that names nobody is billed to nobody.
+#![tactic(auto)]
 
 mod exchange;
 mod statement;

@@ -1,4 +1,5 @@
 //! Reads which cards spoke on a line.
+#![tactic(auto)]
 
 mod bases;
 mod cover;

@@ -1,4 +1,5 @@
 //! Tests of the reading call: worked lines, its edges and refusals, and a few hundred random lines against a second reader.
+#![tactic(auto)]
 
 #[cfg(test)]
 mod edges;

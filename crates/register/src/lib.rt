@@ -1,4 +1,5 @@
 //! The register of cards: names and their numbers, the frame in which cards speak, and what a line says of them.
+#![tactic(auto)]
 
 pub mod frame;
 pub mod laws;

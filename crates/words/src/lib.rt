@@ -1,4 +1,5 @@
 //! Plans, plan records and the words of cards.
+#![tactic(auto)]
 
 pub mod laws;
 pub mod plan;
