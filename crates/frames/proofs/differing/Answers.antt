@@ -8,26 +8,26 @@ pub loop-i-init : goal.loop-i-init
 unfolding count
 loop-i-init c = refl
 
-pub overflow-add-sum : goal.overflow-add-sum
-overflow-add-sum c =
+pub overflow_add-sum : goal.overflow_add-sum
+overflow_add-sum c =
     let a = c.args.a.now in
     let b = c.args.b.now in
     let i = c.loop-i.i in
-    omega (arith, c.loop-i.invariant, distance_more_byte a b i (c.type-inv.a i).fits (c.type-inv.b i).fits, distance_le a b (8 * (i + 1)))
+    omega (arith, c.loop-i.invariant, distance_more_byte a b i (c.type_inv.a i).fits (c.type_inv.b i).fits, distance_le a b (8 * (i + 1)))
 
 pub loop-i-preserved : goal.loop-i-preserved
 loop-i-preserved c =
     let i = c.loop-i.i in
-    omega (arith, c.loop-i.invariant, distance_more_byte c.args.a.now c.args.b.now i (c.type-inv.a i).fits (c.type-inv.b i).fits)
+    omega (arith, c.loop-i.invariant, distance_more_byte c.args.a.now c.args.b.now i (c.type_inv.a i).fits (c.type_inv.b i).fits)
 
-pub overflow-add-sum-then-rest-gt0 : goal.overflow-add-sum-then-rest-gt0
-overflow-add-sum-then-rest-gt0 c =
+pub overflow_add-sum-then-rest-gt0 : goal.overflow_add-sum-then-rest-gt0
+overflow_add-sum-then-rest-gt0 c =
     let a = c.args.a.now in
     let b = c.args.b.now in
     let last = c.args.slots / 8 in
-    omega (arith, distance_rest a b c.args.slots c.loop-i.i c.loop-i.sum (omega arith) c.loop-i.invariant (c.type-inv.a last).fits (c.type-inv.b last).fits, distance_le a b c.args.slots)
+    omega (arith, distance_rest a b c.args.slots c.loop-i.i c.loop-i.sum (omega arith) c.loop-i.invariant (c.type_inv.a last).fits (c.type_inv.b last).fits, distance_le a b c.args.slots)
 
 pub returns-then-rest-gt0 : goal.returns-then-rest-gt0
 returns-then-rest-gt0 c =
     let last = c.args.slots / 8 in
-    distance_rest c.args.a.now c.args.b.now c.args.slots c.loop-i.i c.loop-i.sum (omega arith) c.loop-i.invariant (c.type-inv.a last).fits (c.type-inv.b last).fits
+    distance_rest c.args.a.now c.args.b.now c.args.slots c.loop-i.i c.loop-i.sum (omega arith) c.loop-i.invariant (c.type_inv.a last).fits (c.type_inv.b last).fits

@@ -19,10 +19,10 @@ loop-place-preserved g c =
     let k = c.args.plan.now.k in
     let number = c.args.number in
     let place = c.loop-place.place in
-    let one = (accepted _ _ _ c.in-ok-symbol.ensures).1 in
-    let other = (accepted _ _ _ c.in-ok-slot.ensures).1 in (
-      c.in-ok-push.ensures.items ∙ ap₂ (λ xs x. xs ++ (x ∷ [])) c.loop-place.invariant.0 one ∙ sym (map-range_with_len_more (symbol f k number) 0 place place (omega arith)),
-      c.in-ok-push-2.ensures.items ∙ ap₂ (λ xs x. xs ++ (x ∷ [])) c.loop-place.invariant.1 other ∙ sym (map-range_with_len_more (slot_at f k number) 0 place place (omega arith)),
+    let one = (accepted _ _ _ c.in_ok-symbol.ensures).1 in
+    let other = (accepted _ _ _ c.in_ok-slot.ensures).1 in (
+      c.in_ok-push.ensures.items ∙ ap₂ (λ xs x. xs ++ (x ∷ [])) c.loop-place.invariant.0 one ∙ sym (map-range_with_len_more (symbol f k number) 0 place place (omega arith)),
+      c.in_ok-push-2.ensures.items ∙ ap₂ (λ xs x. xs ++ (x ∷ [])) c.loop-place.invariant.1 other ∙ sym (map-range_with_len_more (slot_at f k number) 0 place place (omega arith)),
     )
 
 -- an accepted word is in the frame
@@ -38,13 +38,13 @@ returns g c =
     let number = c.args.number in
     let all : c.loop-place.place ≡ plan.n = omega (arith, c.n-place-end.ensures) in
     let size = c.bytes_for.ensures ∙ ap bytes_for c.slots.ensures in
-    let old : c.as-mut-slice.result.now ≡ replicate (bytes_for (plan.n * plan.q)) 0 =
-    c.as-mut-slice.ensures.value ∙ c.in-ok-frame.ensures.items-if-clones-equal (λ y e. e) ∙ ap (λ m. replicate m 0) size in
-    let frame = written f plan number c.as-mut-slice.result.now c.write-word.new.frame _ c.in-ok-write-word.ensures.after c.in-ok-write-word.ensures.answer in
+    let old : c.as_mut_slice.result.now ≡ replicate (bytes_for (plan.n * plan.q)) 0 =
+    c.as_mut_slice.ensures.value ∙ c.in_ok-frame.ensures.items-if-clones-equal (λ y e. e) ∙ ap (λ m. replicate m 0) size in
+    let frame = written f plan number c.as_mut_slice.result.now c.write_word.new.frame _ c.in_ok-write_word.ensures.after c.in_ok-write_word.ensures.answer in
     record {
       number_is = refl;
       symbols_are = c.loop-place.invariant.0 ∙ ap (λ m. map (symbol f plan.k number) (range_with_len 0 m)) all;
       slots_are = c.loop-place.invariant.1 ∙ ap (λ m. map (slot_at f plan.k number) (range_with_len 0 m)) all;
-      frame_is = with_items_is c.in-ok-frame.frame c.write-word.new.frame (omega (arith, c.write-word.auto.frame, c.as-mut-slice.ensures.len))
+      frame_is = with_items_is c.in_ok-frame.frame c.write_word.new.frame (omega (arith, c.write_word.auto.frame, c.as_mut_slice.ensures.len))
           ∙ frame ∙ ap (framed (in_word f plan.k number) (plan.n * plan.q)) old;
     }

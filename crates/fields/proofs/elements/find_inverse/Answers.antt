@@ -7,13 +7,13 @@ use Rattle.fields.proofs.elements.find_inverse.Goals as goal
 pub returns-then-branch-eq1 : goal.returns-then-branch-eq1
 returns-then-branch-eq1 g c =
     let f = g.P.Products.tables c.args.field.now in
-    let v = table_value f.order f.times c.args.a c.loop-b.b c.in-ok-times.field-0 c.in-ok-times.ensures in
+    let v = table_value f.order f.times c.args.a c.loop-b.b c.in_ok-times.field-0 c.in_ok-times.ensures in
     inverse_answered f (g.met.P.Products.lawful c.args.field.now) c.args.a c.loop-b.b v.0 v.1 (sym v.2 ∙ c.if-branch-eq1.true)
 
 pub loop-b-preserved : goal.loop-b-preserved
 loop-b-preserved g c =
     let f = g.P.Products.tables c.args.field.now in
-    let v = table_value f.order f.times c.args.a c.loop-b.b c.in-ok-times.field-0 c.in-ok-times.ensures in (
+    let v = table_value f.order f.times c.args.a c.loop-b.b c.in_ok-times.field-0 c.in_ok-times.ensures in (
       λ _. v.0,
       λ k positive below e. elim (cases_eq k c.loop-b.b) [
         | inl same ↦ c.if-branch-eq1.false (v.2 ∙ (rw same at e))

@@ -7,12 +7,12 @@ use Rattle.lines.proofs.clear.drop_all.Goals as goal
 pub loop-slot-init : goal.loop-slot-init
 loop-slot-init g c = (g.L.Line.laws.same c.args.line.now, refl)
 
-pub returns-in-err-drop : goal.returns-in-err-drop
-returns-in-err-drop g c =
+pub returns-in_err-drop : goal.returns-in_err-drop
+returns-in_err-drop g c =
     let row = g.L.Line.row c.loop-slot.line in
     let size = g.L.Line.laws.sized c.args.line.now c.loop-slot.line c.loop-slot.invariant.0 in
     let within : c.loop-slot.slot < length row = omega (arith, c.loop-slot-test.true, c.slots-slot-end.ensures) in
-    absurd (slot_accepts (length row) c.loop-slot.slot tt c.in-err-drop.field-0.0 within c.in-err-drop.ensures.answer)
+    absurd (slot_accepts (length row) c.loop-slot.slot tt c.in_err-drop.field-0.0 within c.in_err-drop.ensures.answer)
 
 pub loop-slot-preserved : goal.loop-slot-preserved
 loop-slot-preserved g c =

@@ -4,14 +4,14 @@ use Rattle.reader.proofs.Basing.{upper_within, sum_within, product_within, produ
 use Rattle.reader.proofs.Pairing.{no_pair}
 use Rattle.reader.proofs.bases.base_at.Goals as goal
 
-pub overflow-add-upper : goal.overflow-add-upper
-overflow-add-upper g c =
+pub overflow_add-upper : goal.overflow_add-upper
+overflow_add-upper g c =
     let f = g.F.Field.tables c.args.field.now in
     let laws = g.met.F.Field.lawful c.args.field.now in
     rw (c.order-q.ensures, c.n.ensures) (omega (arith, c.requires.bases_size, upper_within f laws c.args.plan.now c.requires no_pair))
 
-pub overflow-mul-upper : goal.overflow-mul-upper
-overflow-mul-upper g c =
+pub overflow_mul-upper : goal.overflow_mul-upper
+overflow_mul-upper g c =
     let f = g.F.Field.tables c.args.field.now in
     let laws = g.met.F.Field.lawful c.args.field.now in
     rw (c.order-q.ensures, c.n.ensures) (omega (arith, c.requires.bases_size, upper_within f laws c.args.plan.now c.requires no_pair))

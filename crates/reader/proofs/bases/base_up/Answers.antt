@@ -11,8 +11,8 @@ loop-high-init g c =
     let f = g.F.Field.tables c.args.field.now in
     rw c.requires.1.1.1 (bases_begin f (g.met.F.Field.lawful c.args.field.now) (planned_by f c.args.plan.now c.requires.0))
 
-pub base-at-requires : goal.base-at-requires
-base-at-requires g c =
+pub base_at-requires : goal.base_at-requires
+base_at-requires g c =
     let f = g.F.Field.tables c.args.field.now in
     let plan = c.args.plan.now in
     let highs = plan_highs f plan c.cards.result c.q.result c.requires.0 c.cards.ensures c.q.ensures in
@@ -40,7 +40,7 @@ loop-place-preserved g c =
     let f = g.F.Field.tables c.args.field.now in
     let plan = c.args.plan.now in
     let within = rw c.n-n.ensures at (bounds-bases-high g c) in
-    rw c.n-n.ensures (grid_more (base f plan.k) plan.n c.loop-high.high c.loop-place.place c.loop-place.bases c.base-at.result (omega (arith, c.n-n.ensures, c.loop-place-test.true)) within c.base-at.ensures c.loop-place.invariant)
+    rw c.n-n.ensures (grid_more (base f plan.k) plan.n c.loop-high.high c.loop-place.place c.loop-place.bases c.base_at.result (omega (arith, c.n-n.ensures, c.loop-place-test.true)) within c.base_at.ensures c.loop-place.invariant)
 
 pub returns : goal.returns
 returns g c =

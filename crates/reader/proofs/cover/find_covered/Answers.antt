@@ -11,15 +11,15 @@ use Rattle.reader.proofs.cover.find_covered.Goals.{then-votes-lowest, else-votes
 pub loop-high-init : goal.loop-high-init
 loop-high-init g c = gathered_none _ _ (0 * (g.F.Field.tables c.args.field.now).order) c.args.found.now (omega arith)
 
-pub slice-bounds-spots-end : goal.slice-bounds-spots-end
-slice-bounds-spots-end g c =
-    omega (arith, standing_fits c.args.plan.now c.args.row.now c.requires.1, c.stand-out-standing.ensures.count, c.stand-out-standing.auto.spots)
+pub slice_bounds-spots-end : goal.slice_bounds-spots-end
+slice_bounds-spots-end g c =
+    omega (arith, standing_fits c.args.plan.now c.args.row.now c.requires.1, c.stand_out-standing.ensures.count, c.stand_out-standing.auto.spots)
 
-pub slice-bounds-tally-end : goal.slice-bounds-tally-end
-slice-bounds-tally-end g c =
-    let fits : c.stand-out-standing.result ≤ length c.stand-out-standing.new.spots =
-    omega (arith, standing_fits c.args.plan.now c.args.row.now c.requires.1, c.stand-out-standing.ensures.count, c.stand-out-standing.auto.spots) in
-    sym (length-take-le c.stand-out-standing.result c.stand-out-standing.new.spots fits)
+pub slice_bounds-tally-end : goal.slice_bounds-tally-end
+slice_bounds-tally-end g c =
+    let fits : c.stand_out-standing.result ≤ length c.stand_out-standing.new.spots =
+    omega (arith, standing_fits c.args.plan.now c.args.row.now c.requires.1, c.stand_out-standing.ensures.count, c.stand_out-standing.auto.spots) in
+    sym (length-take-le c.stand_out-standing.result c.stand_out-standing.new.spots fits)
 
 pub tally-votes-requires : goal.tally-votes-requires
 tally-votes-requires g c =
@@ -28,7 +28,7 @@ tally-votes-requires g c =
       c.requires.0,
       (
         omega (arith, c.loop-high-test.true, highs_are c.requires.0 c.cards.ensures c.order-q.ensures),
-        (rw c.stand-out-standing.ensures.after (spots_within plan row c.requires.1), omega (arith, standing_fits plan row c.requires.1, c.stand-out-standing.ensures.count, slice-bounds-tally-end g c)),
+        (rw c.stand_out-standing.ensures.after (spots_within plan row c.requires.1), omega (arith, standing_fits plan row c.requires.1, c.stand_out-standing.ensures.count, slice_bounds-tally-end g c)),
       ),
     )
 
@@ -49,13 +49,13 @@ loop-lowest-preserved g c =
     let high = c.loop-high.high in
     let lowest = c.loop-lowest.lowest in
     let number = high * f.order + lowest in
-    let spots = take c.stand-out-standing.result c.stand-out-standing.new.spots in
+    let spots = take c.stand_out-standing.result c.stand_out-standing.new.spots in
     let voted = get_or c.tally-votes.result lowest 0 in
     let count = c.loop-lowest.count in
     let found = c.loop-lowest.found in
     let test = covered f plan.n plan.k plan.e row in
     let below : lowest < f.order = omega (arith, c.loop-lowest-test.true, c.order-q.ensures) in
-    let told = covered_told c.requires.0 (g.met.F.Field.lawful c.args.field.now) high lowest row spots voted below c.requires.1 c.stand-out-standing.ensures.after
+    let told = covered_told c.requires.0 (g.met.F.Field.lawful c.args.field.now) high lowest row spots voted below c.requires.1 c.stand_out-standing.ensures.after
     (c.tally-votes.ensures lowest (omega (arith, below, c.requires.0.order))) in
     elim c.if-votes-lowest.branch [
       | then-votes-lowest w ↦

@@ -15,12 +15,12 @@ no_pair = record { sum = 0; product = 0; difference = 0 }
 pub loop-spot-init : goal.loop-spot-init
 loop-spot-init g c = tallied_none (order_small c.requires.0)
 
-pub overflow-mul-base : goal.overflow-mul-base
-overflow-mul-base g c =
+pub overflow_mul-base : goal.overflow_mul-base
+overflow_mul-base g c =
     omega (arith, base_within (g.met.F.Field.lawful c.args.field.now) c.requires.0 c.requires.1.0 c.args.spots.now c.requires.1.1.0 c.loop-spot-test.true no_spot c.order-q.ensures c.n-n.ensures)
 
-pub overflow-add-base : goal.overflow-add-base
-overflow-add-base g c =
+pub overflow_add-base : goal.overflow_add-base
+overflow_add-base g c =
     omega (arith, base_within (g.met.F.Field.lawful c.args.field.now) c.requires.0 c.requires.1.0 c.args.spots.now c.requires.1.1.0 c.loop-spot-test.true no_spot c.order-q.ensures c.n-n.ensures)
 
 pub bounds-bases-high : goal.bounds-bases-high
@@ -35,8 +35,8 @@ pub bounds-votes-lowest : goal.bounds-votes-lowest
 bounds-votes-lowest g c =
     omega (arith, order_small c.requires.0, told_below (g.met.F.Field.lawful c.args.field.now) c.requires.0 c.requires.1.0 c.args.spots.now c.requires.1.1.0 c.loop-spot-test.true no_spot c.order-q.ensures c.n-n.ensures no_pair)
 
-pub overflow-add-votes : goal.overflow-add-votes
-overflow-add-votes g c =
+pub overflow_add-votes : goal.overflow_add-votes
+overflow_add-votes g c =
     let below = told_below (g.met.F.Field.lawful c.args.field.now) c.requires.0 c.requires.1.0 c.args.spots.now c.requires.1.1.0 c.loop-spot-test.true no_spot c.order-q.ensures c.n-n.ensures no_pair in
     omega (arith, c.requires.1.1.1, votes_few c.loop-spot-test.true c.loop-spot.invariant below)
 

@@ -11,8 +11,8 @@ pub loop-slot-init : goal.loop-slot-init
 unfolding count
 loop-slot-init c = refl
 
-pub overflow-add-count : goal.overflow-add-count
-overflow-add-count c =
+pub overflow_add-count : goal.overflow_add-count
+overflow_add-count c =
     omega (arith, c.loop-slot.invariant, c.requires.0, c.loop-slot-test.true, count_le (λ s. differ (get_or c.args.row.now s false) (get_or c.args.joined.now s false)) c.loop-slot.slot)
 
 pub loop-slot-preserved : goal.loop-slot-preserved

@@ -15,9 +15,9 @@ loop-b-preserved g c =
     let f = g.F.Field.tables c.args.field.now in
     let a = c.loop-a.a in
     let b = c.loop-b.b in
-    let is = ok_value c.in-ok-pairs.field-0 (pair_of f a b) c.in-ok-pairs.ensures in
+    let is = ok_value c.in_ok-pairs.field-0 (pair_of f a b) c.in_ok-pairs.ensures in
     let within = rw c.order-q.ensures at (bounds-pairs-a g c) in
-    rw c.order-q.ensures (grid_more (pair_of f) f.order a b c.loop-b.pairs c.in-ok-pairs.field-0 (omega (arith, c.order-q.ensures, c.loop-b-test.true)) within is c.loop-b.invariant)
+    rw c.order-q.ensures (grid_more (pair_of f) f.order a b c.loop-b.pairs c.in_ok-pairs.field-0 (omega (arith, c.order-q.ensures, c.loop-b-test.true)) within is c.loop-b.invariant)
 
 pub returns : goal.returns
 returns g c =

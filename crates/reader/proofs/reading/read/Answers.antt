@@ -6,18 +6,18 @@ use Rattle.reader.specs.Verdicts.{verdict}
 use Rattle.reader.proofs.Judging.{answer_is, list_is, list_stays, promised}
 use Rattle.reader.proofs.reading.read.Goals as goal
 
-pub returns-in-err-ready : goal.returns-in-err-ready
-returns-in-err-ready g c =
+pub returns-in_err-ready : goal.returns-in_err-ready
+returns-in_err-ready g c =
     let f = g.F.Field.tables c.args.field.now in
     let plan = c.args.plan.now in
     let row = g.L.Line.row c.args.line.now in
     let list = c.args.list.now in
-    let refused = c.in-err-ready.ensures in
-    let p = err_from_is_err_and c.from-residual.result c.from-residual.ensures.1 in
-    let told = refused_alike (reading_refusal f plan row list) tt (verdict f plan.n plan.k plan.d plan.e row) c.in-err-ready.field-0.0 refused in
+    let refused = c.in_err-ready.ensures in
+    let p = err_from_is_err_and c.from_residual.result c.from_residual.ensures.1 in
+    let told = refused_alike (reading_refusal f plan row list) tt (verdict f plan.n plan.k plan.d plan.e row) c.in_err-ready.field-0.0 refused in
     record {
       answer = rw (p.1, p.2) told;
-      list = list_stays f plan row list c.in-err-ready.field-0.0 refused;
+      list = list_stays f plan row list c.in_err-ready.field-0.0 refused;
       promises = rw p.1 tt;
     }
 
@@ -27,7 +27,7 @@ returns g c =
     let plan = c.args.plan.now in
     let row = g.L.Line.row c.args.line.now in
     let list = c.args.list.now in
-    let none = (accepted (reading_refusal f plan row list) tt c.in-ok-ready.field-0 c.in-ok-ready.ensures).0 in
+    let none = (accepted (reading_refusal f plan row list) tt c.in_ok-ready.field-0 c.in_ok-ready.ensures).0 in
     let told = answer_is f plan row list c.decide.result none c.decide.ensures.answer in
     let after = list_is f plan row list c.decide.new.list none c.decide.ensures.list in
     record {

@@ -25,14 +25,14 @@ few c =
       gathered_few _ _ slot c.loop-symbol.count c.loop-symbol.spots c.loop-symbol.invariant,
     )
 
-pub offset-bounds-spots-count : goal.offset-bounds-spots-count
-offset-bounds-spots-count c = omega (arith, few c)
+pub offset_bounds-spots-count : goal.offset_bounds-spots-count
+offset_bounds-spots-count c = omega (arith, few c)
 
 pub bounds-spots-count : goal.bounds-spots-count
 bounds-spots-count c = omega (arith, few c, c.requires.1, c.loop-symbol.auto.spots, c.loop-place.auto.spots)
 
-pub overflow-add-count : goal.overflow-add-count
-overflow-add-count c = omega (arith, few c)
+pub overflow_add-count : goal.overflow_add-count
+overflow_add-count c = omega (arith, few c)
 
 pub loop-symbol-preserved : goal.loop-symbol-preserved
 loop-symbol-preserved c =

@@ -12,18 +12,18 @@ returns-then-number-lt10 t c = record {
   after = digit_over c.args.text.now c.args.start c.args.number c.if-number-lt10.true c.requires;
 }
 
-pub write-number-end-requires : goal.write-number-end-requires
-write-number-end-requires t c = let more = digits_length c.args.number c.if-number-lt10.false (omega arith) in (search rules, omega arith)
+pub write_number-end-requires : goal.write_number-end-requires
+write_number-end-requires t c = let more = digits_length c.args.number c.if-number-lt10.false (omega arith) in (search rules, omega arith)
 
 pub bounds-text-end : goal.bounds-text-end
 bounds-text-end t c = omega (arith, digits_length c.args.number c.if-number-lt10.false (omega arith))
 
-pub overflow-add-result-2 : goal.overflow-add-result-2
-overflow-add-result-2 t c = omega (arith, digits_length c.args.number c.if-number-lt10.false (omega arith))
+pub overflow_add-result-2 : goal.overflow_add-result-2
+overflow_add-result-2 t c = omega (arith, digits_length c.args.number c.if-number-lt10.false (omega arith))
 
 pub returns : goal.returns
 returns t c = record {
   end = omega (arith, digits_length c.args.number c.if-number-lt10.false (omega arith));
-  after = digits_over c.args.text.now c.write-number-end.new.text c.args.start c.write-number-end.result c.args.number c.if-number-lt10.false (omega arith) c.requires
-      c.write-number-end.ensures.end c.write-number-end.ensures.after;
+  after = digits_over c.args.text.now c.write_number-end.new.text c.args.start c.write_number-end.result c.args.number c.if-number-lt10.false (omega arith) c.requires
+      c.write_number-end.ensures.end c.write_number-end.ensures.after;
 }

@@ -6,7 +6,7 @@ use Rattle.register.proofs.text.write_first.Goals as goal
 
 pub returns : goal.returns
 returns c = record {
-  end = omega (arith, c.write-field.ensures.end);
-  after = over_more c.args.text.now _ c.write-field.new.text 0 1 (c.args.letter ∷ []) (field c.args.value)
-      (omega arith) (omega arith) (over_one c.args.text.now 0 c.args.letter (omega arith)) c.write-field.ensures.after;
+  end = omega (arith, c.write_field.ensures.end);
+  after = over_more c.args.text.now _ c.write_field.new.text 0 1 (c.args.letter ∷ []) (field c.args.value)
+      (omega arith) (omega arith) (over_one c.args.text.now 0 c.args.letter (omega arith)) c.write_field.ensures.after;
 }

@@ -2,7 +2,7 @@ use Rattle.std.proofs.lemmas.Result.{err_from_is_err_and}
 use Rattle.faults.proofs.Answers.{refused_alike}
 use Rattle.words.proofs.word.symbol.Goals as goal
 
-pub returns-in-err-addressed : goal.returns-in-err-addressed
-returns-in-err-addressed g c =
-    let p = err_from_is_err_and c.from-residual.result c.from-residual.ensures.1 in
-    rw (p.1, p.2) (refused_alike _ _ _ _ c.in-err-addressed.ensures)
+pub returns-in_err-addressed : goal.returns-in_err-addressed
+returns-in_err-addressed g c =
+    let p = err_from_is_err_and c.from_residual.result c.from_residual.ensures.1 in
+    rw (p.1, p.2) (refused_alike _ _ _ _ c.in_err-addressed.ensures)

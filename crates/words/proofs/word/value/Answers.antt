@@ -14,28 +14,28 @@ loop-j-init g c = record {
   sum_is = refl;
 }
 
-pub returns-in-err-product : goal.returns-in-err-product
-returns-in-err-product g c =
+pub returns-in_err-product : goal.returns-in_err-product
+returns-in_err-product g c =
     let f = g.F.Field.tables c.args.field.now in
     let laws = g.met.F.Field.lawful c.args.field.now in
     let t = c.loop-j.invariant in
     absurd (table_accepts f.order f.times _ _ _ (digit_is_element f laws _ _ c.requires t) (raised_is_element f laws _ _ c.requires t)
-    (rw c.order-q.ensures at c.in-err-product.ensures))
+    (rw c.order-q.ensures at c.in_err-product.ensures))
 
-pub returns-in-err-sum : goal.returns-in-err-sum
-returns-in-err-sum g c =
+pub returns-in_err-sum : goal.returns-in_err-sum
+returns-in_err-sum g c =
     let f = g.F.Field.tables c.args.field.now in
     let laws = g.met.F.Field.lawful c.args.field.now in
     let t = c.loop-j.invariant in
-    let term = table_value f.order f.times _ _ _ c.in-ok-product.ensures in
+    let term = table_value f.order f.times _ _ _ c.in_ok-product.ensures in
     absurd (table_accepts f.order f.plus _ _ _ (sum_is_element f laws _ _ c.requires t) (rw term.2 (laws.products_stay_below _ _ term.0 term.1))
-    c.in-err-sum.ensures)
+    c.in_err-sum.ensures)
 
 pub loop-j-preserved : goal.loop-j-preserved
 loop-j-preserved g c =
     let f = g.F.Field.tables c.args.field.now in
     let laws = g.met.F.Field.lawful c.args.field.now in
-    let term = table_value f.order f.times _ _ _ (rw c.order-q.ensures at c.in-ok-product.ensures) in
-    let sum = table_value f.order f.plus _ _ _ c.in-ok-sum.ensures in
-    let raised = table_value f.order f.times _ _ _ c.in-ok-power.ensures in
+    let term = table_value f.order f.times _ _ _ (rw c.order-q.ensures at c.in_ok-product.ensures) in
+    let sum = table_value f.order f.plus _ _ _ c.in_ok-sum.ensures in
+    let raised = table_value f.order f.times _ _ _ c.in_ok-power.ensures in
     rw c.order-q.ensures (next_turn f laws _ _ c.requires c.loop-j.invariant _ _ _ term.2 raised.2 sum.2)

@@ -10,4 +10,4 @@ pasted_front d s n h = take_at (take n s) _ n (length_paste_head d 0 s n (omega 
 pub returns : goal.returns
 returns c =
     let size : c.args.end - c.args.start ≤ length (drop c.args.start c.args.self.now.bytes) = rw length-drop (search rules) in
-    ap (take (c.args.end - c.args.start)) c.copy-within.ensures.after ∙ pasted_front _ _ _ size
+    ap (take (c.args.end - c.args.start)) c.copy_within.ensures.after ∙ pasted_front _ _ _ size

@@ -2,5 +2,5 @@
 use Rattle.fields.specs.BinarySteps.{house_modulus_serves}
 use Rattle.fields.proofs.binary.Binary.new.Goals as goal
 
-pub invariant-of-result : goal.invariant-of-result
-invariant-of-result c = (house_modulus_serves c.args.m c.if-m-lt2.false c.if-m-gt6.false, tt)
+pub invariant_of-result : goal.invariant_of-result
+invariant_of-result c = (house_modulus_serves c.args.m c.if-m-lt2.false c.if-m-gt6.false, tt)

@@ -5,4 +5,4 @@ use Rattle.fields.proofs.binary.BinaryProducts.times.Goals as goal
 pub reduced-requires : goal.reduced-requires
 reduced-requires c =
     let self = c.args.self.now in
-    ((admitted_parts self.m self.modulus self.admitted).1, (modulus_below self.m self.modulus self.admitted, c.carryless-product.ensures.1))
+    ((admitted_parts self.m self.modulus self.admitted).1, (modulus_below self.m self.modulus self.admitted, c.carryless_product.ensures.1))

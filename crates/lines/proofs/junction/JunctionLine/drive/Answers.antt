@@ -5,11 +5,11 @@ use Rattle.lines.proofs.Joints.{junction_reached, driven_first}
 use Rattle.lines.proofs.Rows.{answered_alike, refused_exit}
 use Rattle.lines.proofs.junction.JunctionLine.drive.Goals as goal
 
-pub returns-in-err-within : goal.returns-in-err-within
-returns-in-err-within g c =
+pub returns-in_err-within : goal.returns-in_err-within
+returns-in_err-within g c =
     let line = c.args.self.now in
     let out = refused_exit (junction_row (g.L.Line.row line.first) (g.N.Line.row line.second)) c.slots.result c.args.slot tt true
-    c.in-err-within.field-0.0 c.from-residual.result c.slots.ensures c.in-err-within.ensures c.from-residual.ensures.1 in
+    c.in_err-within.field-0.0 c.from_residual.result c.slots.ensures c.in_err-within.ensures c.from_residual.ensures.1 in
     record {
       answer = out.1;
       after = out.2;
@@ -23,7 +23,7 @@ returns g c =
     let line = c.args.self.now in
     let first = g.L.Line.row line.first in
     let second = g.N.Line.row line.second in
-    let within = junction_reached first second c.slots.result c.args.slot c.in-ok-within.field-0 c.slots.ensures c.in-ok-within.ensures in
+    let within = junction_reached first second c.slots.result c.args.slot c.in_ok-within.field-0 c.slots.ensures c.in_ok-within.ensures in
     let done = c.drive.ensures in
     record {
       answer = done.answer ∙ answered_alike (length first) c.args.slot (length (junction_row first second)) c.args.slot tt tt within.1 within.0 refl;

@@ -6,11 +6,11 @@ use Rattle.lines.proofs.Joints.{junction_reached, dropped_both}
 use Rattle.lines.proofs.Rows.{answered_alike, refused_exit}
 use Rattle.lines.proofs.junction.JunctionLine.drop.Goals as goal
 
-pub returns-in-err-within : goal.returns-in-err-within
-returns-in-err-within g c =
+pub returns-in_err-within : goal.returns-in_err-within
+returns-in_err-within g c =
     let line = c.args.self.now in
     let out = refused_exit (junction_row (g.L.Line.row line.first) (g.N.Line.row line.second)) c.slots.result c.args.slot tt false
-    c.in-err-within.field-0.0 c.from-residual.result c.slots.ensures c.in-err-within.ensures c.from-residual.ensures.1 in
+    c.in_err-within.field-0.0 c.from_residual.result c.slots.ensures c.in_err-within.ensures c.from_residual.ensures.1 in
     record {
       answer = out.1;
       after = out.2;
@@ -19,20 +19,20 @@ returns-in-err-within g c =
       refused = λ past. refl;
     }
 
-pub returns-in-err-drop : goal.returns-in-err-drop
-returns-in-err-drop g c =
+pub returns-in_err-drop : goal.returns-in_err-drop
+returns-in_err-drop g c =
     let line = c.args.self.now in
     let first = g.L.Line.row line.first in
     let second = g.N.Line.row line.second in
-    let within = junction_reached first second c.slots.result c.args.slot c.in-ok-within.field-0 c.slots.ensures c.in-ok-within.ensures in
-    absurd (slot_accepts (length first) c.args.slot tt c.in-err-drop.field-0.0 within.1 c.in-err-drop.ensures.answer)
+    let within = junction_reached first second c.slots.result c.args.slot c.in_ok-within.field-0 c.slots.ensures c.in_ok-within.ensures in
+    absurd (slot_accepts (length first) c.args.slot tt c.in_err-drop.field-0.0 within.1 c.in_err-drop.ensures.answer)
 
 pub returns : goal.returns
 returns g c =
     let line = c.args.self.now in
     let first = g.L.Line.row line.first in
     let second = g.N.Line.row line.second in
-    let within = junction_reached first second c.slots.result c.args.slot c.in-ok-within.field-0 c.slots.ensures c.in-ok-within.ensures in
+    let within = junction_reached first second c.slots.result c.args.slot c.in_ok-within.field-0 c.slots.ensures c.in_ok-within.ensures in
     let done = c.drop.ensures in
     let too = c.drop-2.ensures in
     record {

@@ -6,11 +6,11 @@ use Rattle.lines.proofs.Levels.{level_reached, level_done}
 use Rattle.lines.proofs.Rows.{answer_within, refused_exit}
 use Rattle.lines.proofs.level.Level.put.Goals as goal
 
-pub returns-in-err-within : goal.returns-in-err-within
-returns-in-err-within c =
+pub returns-in_err-within : goal.returns-in_err-within
+returns-in_err-within c =
     let was = c.args.self.now in
-    let out = refused_exit (level_means was) c.slots.result c.args.slot tt c.args.standing c.in-err-within.field-0.0 c.from-residual.result
-    c.slots.ensures c.in-err-within.ensures c.from-residual.ensures.1 in
+    let out = refused_exit (level_means was) c.slots.result c.args.slot tt c.args.standing c.in_err-within.field-0.0 c.from_residual.result
+    c.slots.ensures c.in_err-within.ensures c.from_residual.ensures.1 in
     record {
       answer = out.1;
       after = out.2;
@@ -21,15 +21,15 @@ returns-in-err-within c =
 
 pub bounds-self-slot : goal.bounds-self-slot
 bounds-self-slot c =
-    (level_reached c.args.self.now.levels.now c.slots.result c.args.slot c.in-ok-within.field-0 c.slots.ensures
-    c.in-ok-within.ensures).1
+    (level_reached c.args.self.now.levels.now c.slots.result c.args.slot c.in_ok-within.field-0 c.slots.ensures
+    c.in_ok-within.ensures).1
 
 pub returns : goal.returns
 returns c =
     let was = c.args.self.now in
     let levels = was.levels.now in
     let slot = c.args.slot in
-    let within = (level_reached levels c.slots.result slot c.in-ok-within.field-0 c.slots.ensures c.in-ok-within.ensures).0 in
+    let within = (level_reached levels c.slots.result slot c.in_ok-within.field-0 c.slots.ensures c.in_ok-within.ensures).0 in
     let done = level_done was (set levels slot c.after.result) slot c.args.standing within (ap (set levels slot) c.after.ensures) in
     record {
       answer = sym (answer_within (length (level_means was)) slot tt within);

@@ -5,11 +5,11 @@ use Rattle.lines.proofs.Packing.{after_past, carried, packed_done}
 use Rattle.lines.proofs.Rows.{answered_alike, refused_exit, went_on}
 use Rattle.lines.proofs.packed.Packed.put.Goals as goal
 
-pub returns-in-err-within : goal.returns-in-err-within
-returns-in-err-within c =
+pub returns-in_err-within : goal.returns-in_err-within
+returns-in_err-within c =
     let was = c.args.self.now in
-    let out = refused_exit (packed_means was) c.slots.result c.args.slot tt c.args.standing c.in-err-within.field-0.0 c.from-residual.result
-    c.slots.ensures c.in-err-within.ensures c.from-residual.ensures.1 in
+    let out = refused_exit (packed_means was) c.slots.result c.args.slot tt c.args.standing c.in_err-within.field-0.0 c.from_residual.result
+    c.slots.ensures c.in_err-within.ensures c.from_residual.ensures.1 in
     record {
       answer = out.1;
       after = out.2;
@@ -22,7 +22,7 @@ pub returns : goal.returns
 returns c =
     let was = c.args.self.now in
     let slot = c.args.slot in
-    let within = (went_on (packed_means was) c.slots.result slot tt c.in-ok-within.field-0 c.slots.ensures c.in-ok-within.ensures).0 in
+    let within = (went_on (packed_means was) c.slots.result slot tt c.in_ok-within.field-0 c.slots.ensures c.in_ok-within.ensures).0 in
     let done = packed_done was c.put.new.frame slot c.args.standing within c.put.ensures.after in
     record {
       answer = c.put.ensures.answer ∙ answered_alike _ slot (length (packed_means was)) slot tt tt (carried was.bytes.now was.told slot within) within refl;

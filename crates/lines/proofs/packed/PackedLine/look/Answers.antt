@@ -10,4 +10,4 @@ returns c =
     let slot = c.args.slot in
     c.look.ensures
     ∙ packed_look line.bytes.now line.told slot
-    (went_on (packed_means line) c.slots.result slot tt c.in-ok-within.field-0 c.slots.ensures c.in-ok-within.ensures).0
+    (went_on (packed_means line) c.slots.result slot tt c.in_ok-within.field-0 c.slots.ensures c.in_ok-within.ensures).0

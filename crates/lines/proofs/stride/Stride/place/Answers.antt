@@ -5,10 +5,10 @@ use Rattle.lines.proofs.Rows.{went_on}
 use Rattle.lines.proofs.Steps.{product_small}
 use Rattle.lines.proofs.stride.Stride.place.Goals as goal
 
-pub overflow-mul-steps : goal.overflow-mul-steps
-overflow-mul-steps g c =
+pub overflow_mul-steps : goal.overflow_mul-steps
+overflow_mul-steps g c =
     let line = c.args.self.now in
     let below = g.L.Line.row line.below in
-    let within = (went_on (stride_row line.stride line.count below) c.slots.result c.args.slot tt c.in-ok-within.field-0
-    c.slots.ensures c.in-ok-within.ensures).0 in
+    let within = (went_on (stride_row line.stride line.count below) c.slots.result c.args.slot tt c.in_ok-within.field-0
+    c.slots.ensures c.in_ok-within.ensures).0 in
     omega (arith, product_small line.stride line.count below c.args.slot line.steps within (g.L.Line.laws.few line.below))

@@ -5,12 +5,12 @@ use Rattle.lines.proofs.Rows.{refused_exit, written_at}
 use Rattle.lines.proofs.Steps.{stride_done}
 use Rattle.lines.proofs.stride.StrideLine.drop.Goals as goal
 
-pub returns-in-err-place : goal.returns-in-err-place
-returns-in-err-place g c =
+pub returns-in_err-place : goal.returns-in_err-place
+returns-in_err-place g c =
     let line = c.args.self.now in
     let row = stride_row line.stride line.count (g.L.Line.row line.below) in
-    let out = refused_exit row (length row) c.args.slot (stride_place line.stride line.count c.args.slot) false c.in-err-place.field-0.0
-    c.from-residual.result refl c.in-err-place.ensures c.from-residual.ensures.1 in
+    let out = refused_exit row (length row) c.args.slot (stride_place line.stride line.count c.args.slot) false c.in_err-place.field-0.0
+    c.from_residual.result refl c.in_err-place.ensures c.from_residual.ensures.1 in
     record {
       answer = out.1;
       after = out.2;
@@ -24,8 +24,8 @@ returns g c =
     let line = c.args.self.now in
     let below = g.L.Line.row in
     let done = c.drop.ensures in
-    let out = stride_done line.stride line.count (below line.below) (below c.drop.new.self) c.args.slot c.in-ok-place.place false
-    c.drop.result line.steps c.in-ok-place.ensures done.answer done.after in
+    let out = stride_done line.stride line.count (below line.below) (below c.drop.new.self) c.args.slot c.in_ok-place.place false
+    c.drop.result line.steps c.in_ok-place.ensures done.answer done.after in
     record {
       answer = out.0;
       after = out.1;

@@ -6,5 +6,5 @@ pub returns : goal.returns
 returns g c =
     let line = c.args.self.now in
     c.look.ensures
-    ∙ stride_look line.stride line.count (g.L.Line.row line.below) c.args.slot c.in-ok-place.place line.steps
-    c.in-ok-place.ensures
+    ∙ stride_look line.stride line.count (g.L.Line.row line.below) c.args.slot c.in_ok-place.place line.steps
+    c.in_ok-place.ensures

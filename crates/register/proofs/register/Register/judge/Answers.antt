@@ -8,15 +8,15 @@ use Rattle.register.specs.Verdicts.{judged, with_names, reading_count, smallest_
 use Rattle.register.proofs.Judging.{judged_is, names_keep_promises}
 use Rattle.register.proofs.register.Register.judge.Goals as goal
 
-pub returns-in-err-verdict : goal.returns-in-err-verdict
-returns-in-err-verdict g c =
+pub returns-in_err-verdict : goal.returns-in_err-verdict
+returns-in_err-verdict g c =
     let f = g.F.Field.tables c.args.field.now in
     let plan = c.args.plan.now in
     let row = g.L.Line.row c.args.line.now in
     let entries = c.args.self.now.entries.now in
-    let p = err_from_is_err_and c.from-residual.result c.from-residual.ensures.1 in
+    let p = err_from_is_err_and c.from_residual.result c.from_residual.ensures.1 in
     record {
-      answer = rw (p.1, p.2) (refused_alike (reading_refusal f plan row c.args.list.now) (verdict f plan.n plan.k plan.d plan.e row) (judged f plan entries row) c.in-err-verdict.field-0.0 c.in-err-verdict.ensures.answer);
+      answer = rw (p.1, p.2) (refused_alike (reading_refusal f plan row c.args.list.now) (verdict f plan.n plan.k plan.d plan.e row) (judged f plan entries row) c.in_err-verdict.field-0.0 c.in_err-verdict.ensures.answer);
       list = c.read.ensures.list;
       promises = rw p.1 tt;
     }
@@ -29,8 +29,8 @@ returns g c =
     let list = c.args.list.now in
     let entries = c.args.self.now.entries.now in
     let refused = reading_refusal f plan row list in
-    let u = c.in-ok-verdict.verdict in
-    let read = c.in-ok-verdict.ensures in
+    let u = c.in_ok-verdict.verdict in
+    let read = c.in_ok-verdict.ensures in
     let known = accepted refused (verdict f plan.n plan.k plan.d plan.e row) u read.answer in
     let front : c.read.new.list ≡ listed f plan.n plan.k plan.d plan.e row list = c.read.ensures.list ∙ ap (λ o. cond (is_some o) list (listed f plan.n plan.k plan.d plan.e row list)) known.0 in
     let named = c.with_names.ensures ∙ (ap (λ xs. with_names u (smallest_foreign entries (take (reading_count u) xs))) front ∙ judged_is f plan entries row list u known.1) in

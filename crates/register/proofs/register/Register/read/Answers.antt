@@ -12,17 +12,17 @@ use Rattle.register.proofs.Guaranteeing.{guaranteed, list_refused, list_read}
 use Rattle.register.proofs.Refusing.{front_refuses, front_passes}
 use Rattle.register.proofs.register.Register.read.Goals as goal
 
-pub returns-in-err-may-read : goal.returns-in-err-may-read
-returns-in-err-may-read g c =
+pub returns-in_err-may_read : goal.returns-in_err-may_read
+returns-in_err-may_read g c =
     let f = g.F.Field.tables c.args.field.now in
     let plan = c.args.plan.now in
     let row = g.L.Line.row c.args.line.now in
     let list = c.args.list.now in
     let rack = rack_of c.args.self.now row in
     let mark = c.args.frame.now.mark in
-    let d = c.in-err-may-read.field-0.0 in
-    let refused = front_refuses (eqb f.order plan.q) (rack.opened && eqb mark rack.mark) (fault Field f.order) (fault Mark mark) d (line_check plan row (room_check plan list None)) c.in-err-may-read.ensures in
-    let p = err_from_is_err_and c.from-residual.result c.from-residual.ensures.1 in
+    let d = c.in_err-may_read.field-0.0 in
+    let refused = front_refuses (eqb f.order plan.q) (rack.opened && eqb mark rack.mark) (fault Field f.order) (fault Mark mark) d (line_check plan row (room_check plan list None)) c.in_err-may_read.ensures in
+    let p = err_from_is_err_and c.from_residual.result c.from_residual.ensures.1 in
     record {
       answer = rw (p.1, p.2) (answer_refused (refusal g.N.Name.same f plan rack (to_read mark list)) (judged f plan rack.entries row) d refused);
       list = list_refused f plan (refusal g.N.Name.same f plan rack (to_read mark list)) row list d refused;
@@ -40,7 +40,7 @@ returns g c =
     let mark = c.args.frame.now.mark in
     let refused = refusal same f plan rack (to_read mark list) in
     let alike : refused ≡ reading_refusal f plan row list =
-    front_passes (eqb f.order plan.q) (rack.opened && eqb mark rack.mark) (fault Field f.order) (fault Mark mark) c.in-ok-may-read.field-0 (line_check plan row (room_check plan list None)) c.in-ok-may-read.ensures in
+    front_passes (eqb f.order plan.q) (rack.opened && eqb mark rack.mark) (fault Field f.order) (fault Mark mark) c.in_ok-may_read.field-0 (line_check plan row (room_check plan list None)) c.in_ok-may_read.ensures in
     let told = c.judge.ensures.answer ∙ sym (ap (λ o. answer o (judged f plan rack.entries row)) alike) in
     let left = c.judge.ensures.list ∙ list_read f plan refused row list alike in
     record {

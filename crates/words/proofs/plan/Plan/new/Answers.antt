@@ -3,5 +3,5 @@ use Rattle.std.proofs.Common.{◌-◌, arith}
 use Rattle.std.proofs.lemmas.Nat.{mul-le}
 use Rattle.words.proofs.plan.Plan.new.Goals as goal
 
-pub overflow-add-burden : goal.overflow-add-burden
-overflow-add-burden c = omega (arith, mul-le c.args.d (c.args.k - 1) 4294967295 4294967294 (omega arith) (omega arith))
+pub overflow_add-burden : goal.overflow_add-burden
+overflow_add-burden c = omega (arith, mul-le c.args.d (c.args.k - 1) 4294967295 4294967294 (omega arith) (omega arith))

@@ -8,6 +8,6 @@ use Rattle.words.proofs.record.PlanRecord.read.Goals as goal
 pub returns : goal.returns
 returns c =
     let bytes = c.args.bytes.now in
-    let bits : c.from-be-bytes.result ≡ bits_of bytes = c.from-be-bytes.ensures in
+    let bits : c.from_be_bytes.result ≡ bits_of bytes = c.from_be_bytes.ensures in
     c.checked.ensures ∙ ap (λ b. answer (bits_refusal b) (record_of b)) bits
-    ∙ sym (ap (λ o. answer o (record_of (bits_of bytes))) (check_accepts _ _ _ (bits_refusal (bits_of bytes)) c.in-ok-refuse-unless.ensures))
+    ∙ sym (ap (λ o. answer o (record_of (bits_of bytes))) (check_accepts _ _ _ (bits_refusal (bits_of bytes)) c.in_ok-refuse_unless.ensures))
