@@ -1,6 +1,6 @@
 -- The part of a symbol that the higher coefficients make, and the lowest coefficient that leads through a slot. Assumes nothing.
 use Rattle.std.proofs.Common.{◌≡◌, ℕ, zero, suc, ◌+◌, ◌-◌, ◌*◌, ◌/◌, ◌%◌, ◌^◌, ◌<◌, eqb, sym, refl, ap, ◌∙◌, ap₂, inl, inr, pow-suc, div-one, arith}
-use native.Mathlib.Nat.{pow-zero, pow-succ', div-div-eq-div-mul, div-eq_of_lt, zero-div, zero_mod}
+use native.Mathlib.Nat.{pow-zero, pow-succ', div-div-eq-div-mul, div-eq_of_lt, zero-div, zero-mod}
 use Rattle.std.proofs.lemmas.Nat.{mod_below, div_below, div-mul-add, mod-mul-add}
 use Rattle.std.proofs.lemmas.Bool.{cases_eq, eq-eqb, ne_eqb}
 use Rattle.fields.specs.Answers.{negative_of}
@@ -23,11 +23,11 @@ digit_next q number j = ap (λ m. m % q) (div-div-eq-div-mul number q (q ^ j) �
 
 -- the digits of 0 are 0
 digit_zero : (q j : ℕ) → digit q 0 j ≡ 0
-digit_zero q j = ap (λ m. m % q) (zero-div (q ^ j)) ∙ zero_mod q
+digit_zero q j = ap (λ m. m % q) (zero-div (q ^ j)) ∙ zero-mod q
 
 -- past the digits of a number comes 0
 digit_past : (q number j : ℕ) → number < q ^ j → digit q number j ≡ 0
-digit_past q number j h = ap (λ m. m % q) (div-eq_of_lt h) ∙ zero_mod q
+digit_past q number j h = ap (λ m. m % q) (div-eq_of_lt h) ∙ zero-mod q
 
 -- equations that follow from each other have equal tests
 eqb_same : (a b c d : ℕ) → (a ≡ b → c ≡ d) → (c ≡ d → a ≡ b) → eqb a b ≡ eqb c d
@@ -82,7 +82,7 @@ module _ (f : Tables) (l : Lawful f) where
   unfolding value
   value_next zero high place h hp =
       let none : high ≡ 0 = omega (arith, pow-zero f.order) in
-      let left : high % f.order ≡ 0 = ap (λ x. x % f.order) none ∙ zero_mod f.order in
+      let left : high % f.order ≡ 0 = ap (λ x. x % f.order) none ∙ zero-mod f.order in
       let right = zero_absorbs f l place hp in
       let sum = l.zero_is_neutral 0 (zero_is_an_element f l) in
       cc

@@ -3,7 +3,7 @@ use Rattle.std.proofs.Common.{◌≡◌, ℕ, ◌+◌, ◌-◌, ◌*◌, ◌/◌
 use Rattle.std.proofs.lemmas.Nat.{mod_below, div_below}
 use Rattle.std.proofs.ByRecursion.{All-from_get_or, All-map}
 use Rattle.std.proofs.lemmas.List.{map-id}
-use Rattle.std.proofs.lemmas.List.Sums.{sum_by_cons}
+use Rattle.std.proofs.lemmas.List.Sums.{sum_by-cons}
 use Rattle.fields.specs.Lawful.{Tables, Lawful}
 use Rattle.words.specs.declared.plan.Plan.{Plan}
 use Rattle.words.proofs.Addressing.{slots_few}
@@ -21,9 +21,9 @@ use Rattle.reader.proofs.Votes.{covered_by_votes, standing_below, standing_few}
 pub votes_of_spots : (f : Tables) (k high c : ℕ) (slots : List ℕ) → spot_votes f k high c (map (spot_of f.order) slots) ≡ votes f k high c slots
 votes_of_spots f k high c [] = refl
 votes_of_spots f k high c (s ∷ ss) =
-    sum_by_cons (λ (spot : Spot). cond (eqb (voted f k high spot) c) 1 0) (spot_of f.order s) (map (spot_of f.order) ss)
+    sum_by-cons (λ (spot : Spot). cond (eqb (voted f k high spot) c) 1 0) (spot_of f.order s) (map (spot_of f.order) ss)
     ∙ ap (λ v. cond (eqb (lowest f k high s) c) 1 0 + v) (votes_of_spots f k high c ss)
-    ∙ sym (sum_by_cons (λ slot. cond (eqb (lowest f k high slot) c) 1 0) s ss)
+    ∙ sym (sum_by-cons (λ slot. cond (eqb (lowest f k high slot) c) 1 0) s ss)
 
 module _ (p : Plan) (row : List Bool) (long : length row ≡ p.n * p.q) where
   -- the spots that stand lie on the row

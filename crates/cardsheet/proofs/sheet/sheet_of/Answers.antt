@@ -39,7 +39,7 @@ returns g c =
     let all : c.loop-place.place ≡ plan.n = omega (arith, c.n-place-end.ensures) in
     let size = c.bytes_for.ensures ∙ ap bytes_for c.slots.ensures in
     let old : c.as_mut_slice.result.now ≡ replicate (bytes_for (plan.n * plan.q)) 0 =
-    c.as_mut_slice.ensures.value ∙ c.in_ok-frame.ensures.items-if-clones-equal (λ y e. e) ∙ ap (λ m. replicate m 0) size in
+    c.as_mut_slice.ensures.value ∙ c.in_ok-frame.ensures.items_if_clones_equal (λ y e. e) ∙ ap (λ m. replicate m 0) size in
     let frame = written f plan number c.as_mut_slice.result.now c.write_word.new.frame _ c.in_ok-write_word.ensures.after c.in_ok-write_word.ensures.answer in
     record {
       number_is = refl;

@@ -60,11 +60,11 @@ loop-lowest-preserved g c =
     elim c.if-votes-lowest.branch [
       | then-votes-lowest w ↦
           let yes' : test number ≡ true = told ∙ le-leb plan.n (voted + plan.e) (omega (arith, w.if-votes-lowest.true, c.n.ensures, c.e.ensures)) in
-          rw (w.count-is, w.found_is, w.note-count.ensures.count, w.note-count.ensures.after)
+          rw (w.count-is, w.found-is, w.note-count.ensures.count, w.note-count.ensures.after)
           (gathered_yes test (λ m. m) number count found c.loop-lowest.invariant (high * f.order + (lowest + 1)) (high * c.order-q.result + lowest) (omega arith) yes' (ap (λ q. high * q + lowest) c.order-q.ensures))
       | else-votes-lowest w ↦
           let no' : test number ≡ false = told ∙ lt-leb plan.n (voted + plan.e) (omega (arith, w.if-votes-lowest.false, c.n.ensures, c.e.ensures)) in
-          rw (w.count-is, w.found_is) (gathered_no test (λ m. m) number count found c.loop-lowest.invariant (high * f.order + (lowest + 1)) (omega arith) no')
+          rw (w.count-is, w.found-is) (gathered_no test (λ m. m) number count found c.loop-lowest.invariant (high * f.order + (lowest + 1)) (omega arith) no')
     ]
 
 pub returns : goal.returns

@@ -9,7 +9,7 @@ returns c =
     record {
       count = refl;
       after = elim c.if-count-found.branch [
-        | then-count-found w ↦ rw w.found_is
-        | else-count-found w ↦ rw w.found_is (sym (set_past c.args.found.now c.args.count c.args.number w.if-count-found.false))
+        | then-count-found w ↦ rw w.found-is
+        | else-count-found w ↦ rw w.found-is (sym (set_past c.args.found.now c.args.count c.args.number w.if-count-found.false))
       ];
     }
