@@ -11,6 +11,11 @@ loop-high-init g c =
     let f = g.F.Field.tables c.args.field.now in
     rw c.requires.1.1.1 (bases_begin f (g.met.F.Field.lawful c.args.field.now) (planned_by f c.args.plan.now c.requires.0))
 
+pub nonzero_div-high-end : goal.nonzero_div-high-end
+nonzero_div-high-end g c =
+    let f = g.F.Field.tables c.args.field.now in
+    omega (arith, c.q.ensures, c.requires.0, (planned_by f c.args.plan.now c.requires.0).q_low)
+
 pub base_at-requires : goal.base_at-requires
 base_at-requires g c =
     let f = g.F.Field.tables c.args.field.now in
