@@ -5,6 +5,7 @@ use Rattle.fields.specs.Lawful.{Tables}
 use Rattle.frames.specs.Frames.{stands}
 use Rattle.words.specs.Words.{in_word}
 use Rattle.names.specs.declared.extension.Extension.{Extension}
+use Rattle.names.specs.declared.name.Name.{Ghosts}
 use Rattle.register.specs.declared.register.Register.{Register}
 
 -- a register and its line, as a call finds them: the entries, of which number N belongs to card N, the mark, whether a
@@ -48,7 +49,7 @@ abbrev pub driven : Tables → ℕ → ℕ → List Bool → List Bool
 driven f k number row = map (λ slot. slice_index_or row slot false || in_word f k number slot) (range_with_len 0 (length row))
 
 -- a register with a line of this row
-abbrev pub rack_of : {N : Type 0} → Register N → List Bool → Rack N
+abbrev pub rack_of : {N : Type 0} {kind : Ghosts N} → Register N kind → List Bool → Rack N
 rack_of register row = record { entries = register.entries.now; mark = register.mark; opened = register.opened; row = row }
 
 -- the entry of a number in a register of own numbers: the extension that bears it, where its slot stands in a packed frame

@@ -3,7 +3,7 @@ use Rattle.std.proofs.Common.{length, get_or, None, sym, ◌∙◌}
 use Rattle.register.specs.Racks.{holds}
 use Rattle.register.proofs.Searching.{searched_more, searched_found, held_at, none_at}
 use Rattle.register.proofs.register.Register.number_of.Goals as goal
-use Rattle.register.proofs.register.Register.number_of.Goals.{in-Some+else-is_same, in-default}
+use Rattle.register.proofs.register.Register.number_of.Goals.{in-Some+else-is_same, in_default}
 
 pub returns-then-is_same : goal.returns-then-is_same
 returns-then-is_same g c =
@@ -28,5 +28,5 @@ loop-number-preserved g c =
     (elim c.match-entries-number.branch [
       | in-Some+else-is_same w ↦
           held_at same name w.in-Some.held entries number c.index-entries-number.result c.loop-number-test.true c.index-entries-number.is w.in-Some.is ∙ sym w.if-is_same.ensures
-      | in-default w ↦ none_at same name entries number c.index-entries-number.result c.loop-number-test.true c.index-entries-number.is w.in-default.is
+      | in_default w ↦ none_at same name entries number c.index-entries-number.result c.loop-number-test.true c.index-entries-number.is w.in_default.is
     ])

@@ -12,7 +12,7 @@ loop-number-preserved c =
     let entries = c.loop-number.entries in
     let number = c.loop-number.number in
     λ i h.
-    ap (λ x. get_or (set entries number x) i None) c.own-number.ensures
+    ap (λ x. get_or (set entries number x) i None) c.own_number.ensures
     ∙ fill_by_more (numbered frame) entries number None
     (omega (arith, c.loop-number-test.true, c.loop-number.auto.entries, c.min-count.ensures, length-take (c.min-count.result - 0) c.args.entries.now)) c.loop-number.invariant i h
 
