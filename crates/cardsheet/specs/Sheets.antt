@@ -1,5 +1,5 @@
 -- What a card's sheet says. Assumes nothing.
-use Rattle.std.specs.Prelude.{◌≡◌, ℕ, ◌*◌, List, map, replicate, vec_items}
+use Rattle.std.specs.Prelude.{◌≡◌, ℕ, ◌*◌, map, replicate, vec_items}
 use Rattle.std.specs.List.{range_with_len}
 use Rattle.fields.specs.Lawful.{Tables}
 use Rattle.frames.specs.Frames.{bytes_for, framed}

@@ -1,10 +1,10 @@
 -- One turn of the loops that multiply and reduce polynomials over bits. Assumes nothing.
-use Rattle.std.specs.Prelude.{◌≡◌, ℕ, zero, suc, ◌+◌, ◌-◌, ◌*◌, ◌/◌, ◌%◌, ◌^◌, ◌<◌, ◌≤◌, Bool, true, ◌&&◌, bit_and, bit_xor, nat_le, refl}
-use Rattle.std.proofs.Common.{sym, ap, ◌∙◌, mod-eq_of_lt, mod-lt, mul-one, mul-zero, add-one, arith, shl_lt, pow_mono}
+use Rattle.std.specs.Prelude.{◌≡◌, ℕ, suc, ◌+◌, ◌-◌, ◌*◌, ◌/◌, ◌%◌, ◌^◌, ◌<◌, ◌≤◌, true, ◌&&◌, bit_and, bit_xor, nat_le, refl}
+use Rattle.std.proofs.Common.{ap, ◌∙◌, mod-eq_of_lt, mul-one, add-one, arith, shl_lt, pow_mono}
 use Rattle.std.proofs.lemmas.Nat.{mul-le, and_mask, xor_lt}
 use Rattle.std.proofs.lemmas.Bool.{and_parts, leb-true}
 use Rattle.fields.specs.Lawful.{Lawful}
-use Rattle.fields.specs.Polynomials.{bit, product, remainder, all_below, irreducible}
+use Rattle.fields.specs.Polynomials.{product, remainder, all_below, irreducible}
 use Rattle.fields.specs.Kinds.{makes_binary_field, house_modulus, binary_tables}
 use Rattle.fields.specs.BinaryLaws.{binary_laws, irreducible_degree}
 use Rattle.fields.specs.Searching.{all_below_at}

@@ -1,5 +1,5 @@
 -- Polynomials whose coefficients are bits: bit i of a number is the coefficient of x^i. Assumes nothing.
-use Rattle.std.specs.Prelude.{ℕ, zero, suc, ◌+◌, ◌-◌, ◌*◌, ◌/◌, ◌%◌, ◌^◌, Bool, true, false, not, ◌&&◌, ◌==◌, bit_xor, nat_le, nat_lt}
+use Rattle.std.specs.Prelude.{ℕ, zero, suc, ◌+◌, ◌-◌, ◌*◌, ◌/◌, ◌%◌, ◌^◌, Bool, true, not, ◌&&◌, ◌==◌, bit_xor, nat_le, nat_lt}
 
 -- the coefficient of x^i
 abbrev pub bit : ℕ → ℕ → ℕ

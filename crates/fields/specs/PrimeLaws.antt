@@ -1,9 +1,9 @@
 -- The prime fields are lawful. Assumes nothing.
-use Rattle.std.specs.Prelude.{◌≡◌, ℕ, zero, suc, ◌+◌, ◌-◌, ◌*◌, ◌/◌, ◌%◌, ◌^◌, ◌<◌, ◌≤◌, Bool, true, false, cond, not, ◌&&◌, ◌||◌, T, ◌⊎◌, ◌==◌, ◌≢◌, nat_eq, nat_le, refl}
-use Rattle.std.proofs.Common.{sym, ap, ◌∙◌, inl, inr, add_comm, add_assoc, mul_comm, mul_assoc, mul-add, mod-lt, mod-eq_of_lt, zero-add, one-mul, add-zero, arith}
+use Rattle.std.specs.Prelude.{◌≡◌, ℕ, zero, suc, ◌+◌, ◌-◌, ◌*◌, ◌/◌, ◌%◌, ◌<◌, ◌≤◌, Bool, true, false, not, ◌==◌, ◌≢◌, nat_eq, nat_le, refl}
+use Rattle.std.proofs.Common.{sym, ap, ◌∙◌, inl, inr, add_comm, add_assoc, mul_comm, mul_assoc, mul-add, mod-lt, mod-eq_of_lt, zero-add, one-mul, arith}
 use Rattle.std.proofs.Math.Nat.{add-mod-mod, mod-add-mod, mod_self, add-mul-mod_self_left, mod-add-div}
 use Rattle.std.proofs.lemmas.Bool.{and_parts, and_from, and_left, and_right, leb-true, eq-eqb, ne_eqb, eqb-true, cases_Bool, not_from_true, not_from_false}
-use Rattle.fields.specs.Lawful.{Tables, Lawful}
+use Rattle.fields.specs.Lawful.{Lawful}
 use Rattle.fields.specs.Polynomials.{all_below}
 use Rattle.fields.specs.Kinds.{prime, makes_prime_field, prime_tables}
 use Rattle.fields.specs.Searching.{all_below_at, all_below_from, all_below_fails}

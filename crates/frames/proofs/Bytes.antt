@@ -1,5 +1,5 @@
 -- Bytes and their bits. Assumes nothing.
-use Rattle.std.proofs.Common.{◌≡◌, ℕ, zero, suc, ◌+◌, ◌-◌, ◌*◌, ◌/◌, ◌%◌, ◌^◌, ◌<◌, ◌≤◌, Bool, true, false, cond, not, ◌&&◌, eqb, List, get_or, sym, refl, ap, ◌∙◌, ap₂, mod-lt, add_comm, div-one, arith, shr-shr}
+use Rattle.std.proofs.Common.{◌≡◌, ℕ, zero, suc, ◌+◌, ◌-◌, ◌*◌, ◌/◌, ◌%◌, ◌^◌, ◌<◌, ◌≤◌, Bool, true, false, cond, ◌&&◌, eqb, List, get_or, sym, refl, ap, ◌∙◌, ap₂, mod-lt, add_comm, div-one, arith, shr-shr}
 use lib.Bits.{bit_and, bit_or, bit_xor, xor_shr, xor_mod, xor_lt}
 use lib.Count.{ones, ones_step}
 use Rattle.std.proofs.lemmas.Bool.{and_parts, eqb-true}

@@ -1,5 +1,5 @@
 -- Packed frames: rows of slots carried in bytes. Assumes nothing.
-use Rattle.std.specs.Prelude.{ℕ, suc, ◌+◌, ◌-◌, ◌*◌, ◌/◌, ◌%◌, ◌^◌, Bool, true, false, cond, not, ◌&&◌, List, map, length, set, Ok, Err, Result, ◌==◌, nat_lt, slice_index, slice_set}
+use Rattle.std.specs.Prelude.{ℕ, suc, ◌+◌, ◌-◌, ◌*◌, ◌/◌, ◌%◌, ◌^◌, Bool, true, false, cond, not, List, map, length, Ok, Err, Result, ◌==◌, nat_lt, slice_index, slice_set}
 use Rattle.std.specs.List.{range_with_len}
 use Rattle.faults.specs.Faults.{fault}
 use Rattle.faults.specs.declared.fault.Fault.{Fault}

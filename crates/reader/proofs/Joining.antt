@@ -1,7 +1,7 @@
 -- Marking the words of numbers, and comparing the marks with a row. Assumes nothing.
-use Rattle.std.proofs.Common.{◌≡◌, ℕ, ◌+◌, ◌-◌, ◌*◌, ◌/◌, ◌%◌, ◌^◌, ◌<◌, ◌≤◌, Bool, true, false, cond, not, ◌&&◌, ◌||◌, eqb, ltb, ◌≢◌, ◌⊎◌, List, [], ◌∷◌, ◌++◌, length, get_or, take, set, replicate, Ok, Result, sym, refl, ap, ◌∙◌, ap₂, inl, inr, mod-lt, div-add-mod', add-one, arith}
+use Rattle.std.proofs.Common.{◌≡◌, ℕ, ◌+◌, ◌-◌, ◌*◌, ◌/◌, ◌%◌, ◌^◌, ◌<◌, Bool, true, false, cond, not, ◌&&◌, ◌||◌, ltb, ◌⊎◌, List, [], ◌∷◌, ◌++◌, length, get_or, take, set, replicate, Ok, Result, sym, refl, ap, ◌∙◌, ap₂, inl, inr, mod-lt, div-add-mod', add-one, arith}
 use mathlib.Core.Bool.{beq}
-use Rattle.std.proofs.lemmas.Nat.{div_below, div-mul-add, mod-mul-add}
+use Rattle.std.proofs.lemmas.Nat.{div_below, div-mul-add}
 use Rattle.std.proofs.lemmas.List.{get_or-replicate, get_or-set_same, get_or-set_other, take_all, take_more, take_more_set}
 use Rattle.std.proofs.lemmas.Bool.{cond-true, cases_eq, cases_lt, lt-ltb, le-ltb, eq-eqb, ne_eqb, and_from, and_right, or_right}
 use Rattle.faults.specs.declared.fault.Fault.{Fault}
@@ -19,7 +19,7 @@ use Rattle.reader.specs.Working.{Tabled, base}
 use Rattle.reader.specs.declared.pairs.Pair.{Pair}
 use Rattle.reader.proofs.BaseLaws.{base_below, symbol_by_base}
 use Rattle.reader.proofs.Planned.{planned_by, power_before, rows_few_by}
-use Rattle.reader.proofs.Grids.{cell_below, cell_few}
+use Rattle.reader.proofs.Grids.{cell_few}
 
 -- one number more is joined
 pub joined_more : (f : Tables) (k : ℕ) (xs : List ℕ) (x slot : ℕ) → joined f k (xs ++ x ∷ []) slot ≡ (joined f k xs slot || in_word f k x slot)

@@ -1,5 +1,5 @@
 -- What two elements of a field give, and the table of it. Assumes nothing.
-use Rattle.std.proofs.Common.{◌≡◌, ℕ, ◌<◌, ltb, Ok, Result, sym, ap, ◌∙◌, arith}
+use Rattle.std.proofs.Common.{◌≡◌, ℕ, ◌<◌, ltb, Ok, Result, ◌∙◌, arith}
 use Rattle.std.proofs.lemmas.Bool.{cond-true, lt-ltb}
 use Rattle.faults.specs.declared.fault.Fault.{Fault}
 use Rattle.fields.specs.Answers.{table_answer, negative_of, negative_answer}

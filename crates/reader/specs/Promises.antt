@@ -1,5 +1,5 @@
 -- What distance guarantees, for every lawful field, every plan and every line. Assumes nothing.
-use Rattle.std.specs.Prelude.{◌≡◌, ℕ, ◌+◌, ◌-◌, ◌*◌, ◌^◌, ◌<◌, ◌≤◌, Bool, true, false, List, length, take, ◌≢◌}
+use Rattle.std.specs.Prelude.{◌≡◌, ℕ, ◌-◌, ◌*◌, ◌^◌, ◌≤◌, Bool, true, false, List, length, take, ◌≢◌}
 use Rattle.fields.specs.Lawful.{Tables, Lawful}
 use Rattle.words.specs.Plans.{plan_exists}
 use Rattle.reader.specs.Distances.{distance, distance_between, cover}

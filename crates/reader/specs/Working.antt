@@ -1,6 +1,6 @@
 -- How a reading is worked out: all words that differ only in the lowest coefficient are decided together. No public
 -- contract speaks of these. Assumes nothing.
-use Rattle.std.specs.Prelude.{◌≡◌, ℕ, ◌+◌, ◌-◌, ◌*◌, ◌/◌, ◌%◌, ◌^◌, ◌<◌, ◌≤◌, Bool, false, List, map, length, get_or, count_by, filter, nat_eq, slice_index_or}
+use Rattle.std.specs.Prelude.{◌≡◌, ℕ, ◌+◌, ◌-◌, ◌*◌, ◌/◌, ◌%◌, ◌^◌, ◌<◌, ◌≤◌, Bool, false, List, length, get_or, count_by, filter, nat_eq, slice_index_or}
 use Rattle.std.specs.List.{range_with_len, AllByRecursion as All}
 use Rattle.fields.specs.Answers.{negative_of}
 use Rattle.fields.specs.Lawful.{Tables}

@@ -12,7 +12,7 @@ use Rattle.reader.specs.Calls.{line_check}
 use Rattle.reader.specs.Distances.{distance}
 use Rattle.reader.specs.Sets.{NumberSet}
 use Rattle.register.specs.Books.{Book, blank, ticked_with, roll_number, noted, fed}
-use Rattle.register.specs.Calls.{Call, to_enrol, to_strike, to_open, to_tick, to_knock, to_read, to_close, to_judge, mark_check, name_free, name_known, ticked_row, refusal, after, accepts, left_by}
+use Rattle.register.specs.Calls.{Call, to_enrol, to_strike, to_open, to_tick, to_knock, to_read, to_close, to_judge, mark_check, name_known, ticked_row, refusal, after, accepts, left_by}
 use Rattle.names.specs.Names.{Alike}
 use Rattle.register.specs.Promises.{NamesDiffer, OnTheRoll}
 use Rattle.register.specs.Racks.{Rack, New, enrolled, number_of}

@@ -1,5 +1,5 @@
 -- Worked readings, which follow from the definitions alone. Assumes nothing.
-use Rattle.std.specs.Prelude.{◌≡◌, ℕ, Bool, List, [], ◌∷◌, map, codes, Option, refl}
+use Rattle.std.specs.Prelude.{◌≡◌, ℕ, List, [], ◌∷◌, map, codes, Option, refl}
 use Rattle.std.specs.List.{range_with_len}
 use Rattle.lines.specs.Packed.{packed_row}
 use Rattle.words.specs.Examples.{WorkedExamples, plan_a, field_a}

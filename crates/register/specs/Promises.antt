@@ -1,5 +1,5 @@
 -- What a reading guarantees. Assumes nothing.
-use Rattle.std.specs.Prelude.{◌≡◌, ℕ, ◌<◌, ◌≤◌, Bool, true, false, List, length, take, Some, None, Option, slice_index_or}
+use Rattle.std.specs.Prelude.{◌≡◌, ℕ, ◌<◌, ◌≤◌, Bool, true, List, length, take, Some, None, Option, slice_index_or}
 use Rattle.std.specs.List.{ContainsAt as Has}
 use Rattle.fields.specs.Lawful.{Tables}
 use Rattle.words.specs.declared.plan.Plan.{Plan}

@@ -1,5 +1,5 @@
 -- What the calls of a register work on. Assumes nothing.
-use Rattle.std.specs.Prelude.{◌≡◌, ℕ, ◌*◌, Bool, true, false, cond, ◌&&◌, ◌||◌, List, [], ◌∷◌, map, length, replicate, is_some, Some, None, filter, Option, nat_lt, slice_index_or}
+use Rattle.std.specs.Prelude.{◌≡◌, ℕ, ◌*◌, Bool, false, cond, ◌&&◌, ◌||◌, List, [], ◌∷◌, map, length, replicate, is_some, Some, None, filter, Option, nat_lt, slice_index_or}
 use Rattle.std.specs.List.{range_with_len}
 use Rattle.fields.specs.Lawful.{Tables}
 use Rattle.frames.specs.Frames.{stands}

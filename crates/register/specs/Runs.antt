@@ -1,5 +1,5 @@
 -- Runs of calls. Assumes nothing.
-use Rattle.std.specs.Prelude.{ℕ, Bool, List, [], ◌∷◌}
+use Rattle.std.specs.Prelude.{Bool}
 use Rattle.fields.specs.Lawful.{Tables}
 use Rattle.words.specs.declared.plan.Plan.{Plan}
 use Rattle.register.specs.Racks.{Rack}

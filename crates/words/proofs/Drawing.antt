@@ -1,5 +1,5 @@
 -- Drawing a word into a frame, slot by slot. Assumes nothing.
-use Rattle.std.proofs.Common.{◌≡◌, ℕ, ◌+◌, ◌*◌, ◌/◌, ◌%◌, ◌<◌, ◌≤◌, Bool, eqb, List, length, sym, ap, ◌∙◌, ap₂, add-zero, add-mul, one-mul, arith}
+use Rattle.std.proofs.Common.{◌≡◌, ℕ, ◌+◌, ◌*◌, ◌<◌, ◌≤◌, Bool, eqb, List, length, sym, ap, ◌∙◌, ap₂, add-zero, add-mul, one-mul, arith}
 use Rattle.std.proofs.lemmas.Nat.{mul-add-lt, div-mul-add, mod-mul-add, mul-le}
 use Rattle.fields.specs.Lawful.{Tables}
 use Rattle.frames.specs.Frames.{bytes_for, with_slot, framed}

@@ -1,5 +1,5 @@
 -- One turn of the loop that evaluates a number's polynomial. Assumes nothing.
-use Rattle.std.proofs.Common.{◌≡◌, ℕ, suc, ◌+◌, ◌*◌, ◌/◌, ◌%◌, ◌^◌, ◌<◌, sym, ap, ◌∙◌, ap₂, mod-lt, pow-suc, add-one, arith}
+use Rattle.std.proofs.Common.{◌≡◌, ℕ, ◌+◌, ◌/◌, ◌%◌, ◌^◌, ◌<◌, sym, ap, ◌∙◌, ap₂, mod-lt, pow-suc, add-one}
 use native.Mathlib.Nat.{div-div-eq-div-mul}
 use Rattle.fields.specs.Lawful.{Tables, Lawful}
 use Rattle.fields.proofs.Algebra.{zero_is_an_element}

@@ -1,5 +1,5 @@
 -- A byte adds the set bits of the exclusive or, and the last one only those of its slots.
-use Rattle.std.proofs.Common.{◌≡◌, ◌+◌, ◌*◌, ◌/◌, refl, arith}
+use Rattle.std.proofs.Common.{◌+◌, ◌*◌, ◌/◌, refl, arith}
 use Rattle.frames.specs.Counting.{count}
 use Rattle.frames.proofs.Bytes.{distance_more_byte, distance_rest, distance_le}
 use Rattle.frames.proofs.differing.Goals as goal

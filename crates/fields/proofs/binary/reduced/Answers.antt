@@ -1,5 +1,5 @@
 -- Each turn cancels the highest term that is left.
-use Rattle.std.proofs.Common.{◌≡◌, suc, ◌-◌, sym, ap, ◌∙◌, arith}
+use Rattle.std.proofs.Common.{◌≡◌, suc, ◌-◌, ap, ◌∙◌, arith}
 use Rattle.fields.specs.Polynomials.{remainder}
 use Rattle.fields.specs.BinarySteps.{sum_below, remainder_more}
 use Rattle.fields.proofs.binary.reduced.Goals as goal

@@ -1,4 +1,4 @@
-use Rattle.std.proofs.Common.{◌≡◌, ◌+◌, ◌^◌, ◌<◌}
+use Rattle.std.proofs.Common.{◌≡◌, ◌<◌}
 use Rattle.fields.specs.Polynomials.{remainder}
 use Rattle.fields.proofs.binary.reduced.Given as goal
 

@@ -1,5 +1,5 @@
 -- Trial division by every number from 2 to p - 1.
-use Rattle.std.proofs.Common.{◌≡◌, ◌+◌, ◌%◌, inl, inr, arith}
+use Rattle.std.proofs.Common.{◌+◌, inl, inr, arith}
 use Rattle.std.proofs.lemmas.Bool.{cases_eq}
 use Rattle.fields.specs.PrimeLaws.{divided, undivided}
 use Rattle.fields.proofs.prime.is_prime.Goals as goal

@@ -1,5 +1,5 @@
 -- Place by place, the slot of the word is marked.
-use Rattle.std.proofs.Common.{◌≡◌, ◌<◌, ap, ◌∙◌, arith}
+use Rattle.std.proofs.Common.{◌≡◌, ◌∙◌, arith}
 use Rattle.words.specs.Words.{in_word}
 use Rattle.reader.proofs.Planned.{planned_by}
 use Rattle.reader.proofs.Joining.{base_within, symbol_within, slot_few, marked_more, marked_all}

@@ -1,6 +1,5 @@
 -- Sums, negatives and products of elements are elements, so that no call refuses and each fits a byte.
 use Rattle.std.proofs.Common.{◌<◌, arith}
-use Rattle.fields.specs.Answers.{negative_of}
 use Rattle.fields.proofs.Answering.{table_accepts}
 use Rattle.reader.proofs.Pairing.{negative_below, negative_value, table_below}
 use Rattle.reader.proofs.pairs.pair_of.Goals as goal

@@ -1,5 +1,5 @@
 -- Row by row, each entry is what its two elements give.
-use Rattle.std.proofs.Common.{◌≡◌, ◌+◌, ◌*◌, ◌<◌, length, refl, arith}
+use Rattle.std.proofs.Common.{refl, arith}
 use Rattle.reader.specs.Working.{pair_of}
 use Rattle.reader.proofs.Grids.{cell_few, grid_more, grid_at}
 use Rattle.reader.proofs.Pairing.{ok_value}

@@ -1,5 +1,5 @@
 -- A power that is too large stays so with every factor more.
-use Rattle.std.proofs.Common.{◌≡◌, suc, ◌+◌, ◌*◌, ◌^◌, ◌≤◌, sym, ap, ◌∙◌, pow-suc, add-one, arith}
+use Rattle.std.proofs.Common.{suc, ◌*◌, ◌^◌, ◌≤◌, sym, ap, ◌∙◌, pow-suc, add-one, arith}
 use native.Mathlib.Nat.{pow-zero, pow-le-pow_right}
 use Rattle.words.proofs.plan.power_within.Goals as goal
 

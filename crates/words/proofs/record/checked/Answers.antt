@@ -1,5 +1,5 @@
 -- After the checks of the bits those of the record's numbers decide.
-use Rattle.std.proofs.Common.{◌≡◌, ap, ◌∙◌}
+use Rattle.std.proofs.Common.{◌≡◌, ◌∙◌}
 use Rattle.std.proofs.lemmas.Result.{err_from_is_err_and}
 use Rattle.faults.proofs.Answers.{answer_refused, answer_accepted}
 use Rattle.words.specs.Records.{record_of, record_refusal, bits_refusal}

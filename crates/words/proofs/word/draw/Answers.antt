@@ -1,5 +1,5 @@
 -- Every slot of the frame is told whether the word has it, in the order of the slots.
-use Rattle.std.proofs.Common.{◌≡◌, ◌+◌, ◌*◌, ◌<◌, ◌≤◌, length, sym, refl, ap, ◌∙◌, ap₂, zero-mul, arith}
+use Rattle.std.proofs.Common.{◌≡◌, ◌+◌, ◌*◌, length, sym, refl, ap, ◌∙◌, ap₂, zero-mul, arith}
 use Rattle.frames.specs.Frames.{bytes_for, framed}
 use Rattle.frames.proofs.Slots.{framed_none, slot_accepts}
 use Rattle.words.specs.Words.{symbol, in_word}

@@ -1,9 +1,9 @@
 -- Every number of a turn is an element, so that no call of the field refuses.
-use Rattle.std.proofs.Common.{◌/◌, ◌%◌, ◌^◌, sym, refl, ap, ◌∙◌, div-one}
+use Rattle.std.proofs.Common.{◌/◌, sym, refl, ap, ◌∙◌, div-one}
 use native.Mathlib.Nat.{pow-zero}
 use Rattle.fields.proofs.Answering.{table_value, table_accepts}
 use Rattle.words.specs.Words.{power, value}
-use Rattle.words.proofs.Evaluating.{Turn, digit_is_element, raised_is_element, sum_is_element, next_turn}
+use Rattle.words.proofs.Evaluating.{digit_is_element, raised_is_element, sum_is_element, next_turn}
 use Rattle.words.proofs.word.value.Goals as goal
 
 pub loop-j-init : goal.loop-j-init

@@ -1,5 +1,5 @@
 -- The negative of 0 is 0, and that of any other element is what it lacks to p.
-use Rattle.std.proofs.Common.{◌≡◌, ◌+◌, ◌-◌, ◌%◌, ◌<◌, ap, ◌∙◌, arith}
+use Rattle.std.proofs.Common.{◌≡◌, ◌+◌, ◌-◌, ◌%◌, ap, ◌∙◌, arith}
 use native.Mathlib.Nat.{zero-mod, mod_self}
 use Rattle.fields.specs.Kinds.{prime_tables}
 use Rattle.fields.proofs.Answering.{negative_answered, element_ok}

@@ -1,5 +1,5 @@
 -- The numbers are looked up one by one.
-use Rattle.std.proofs.Common.{not, length, get_or, sym, ap}
+use Rattle.std.proofs.Common.{not, length, sym, ap}
 use Rattle.register.specs.Racks.{enrolled}
 use Rattle.register.specs.Verdicts.{by_names}
 use Rattle.register.proofs.Searching.{listed_more, listed_found, listed_none}

@@ -5,7 +5,7 @@ use Rattle.faults.specs.Faults.{answer, fault}
 use Rattle.faults.specs.declared.refusal.Refusal.TheVariants.{Field, Mark}
 use Rattle.faults.proofs.Answers.{answer_refused}
 use Rattle.reader.specs.Calls.{line_check, room_check, reading_refusal}
-use Rattle.register.specs.Calls.{to_read, refusal, list_left}
+use Rattle.register.specs.Calls.{to_read, refusal}
 use Rattle.register.specs.Racks.{rack_of}
 use Rattle.register.specs.Verdicts.{judged}
 use Rattle.register.proofs.Guaranteeing.{guaranteed, list_refused, list_read}

@@ -1,5 +1,5 @@
 -- No place of a card's word is refused, and each turn drives one more.
-use Rattle.std.proofs.Common.{◌≡◌, ◌*◌, ◌<◌, length, get_or, set, sym, refl, ap, ◌∙◌, arith}
+use Rattle.std.proofs.Common.{◌≡◌, ◌*◌, ◌<◌, length, sym, refl, ap, ◌∙◌, arith}
 use Rattle.words.specs.Words.{slot_at}
 use Rattle.frames.proofs.Slots.{slot_accepts}
 use Rattle.register.proofs.Driving.{place_accepts, slot_told, driven_more, driven_all}

@@ -1,5 +1,5 @@
 -- A mask of so many ones takes the remainder.
-use Rattle.std.proofs.Common.{◌≡◌, ◌+◌, ◌-◌, ◌*◌, ◌/◌, ◌%◌, ◌^◌, ap, ◌∙◌, ap₂, arith}
+use Rattle.std.proofs.Common.{◌≡◌, ◌+◌, ◌-◌, ◌/◌, ◌^◌, ◌∙◌, ap₂, arith}
 use lib.Bits.{bit_and, and_mask}
 use Rattle.std.proofs.lemmas.Nat.{one_shl}
 use Rattle.words.proofs.record.Part.held.Goals as goal

@@ -1,5 +1,5 @@
 -- A refusal leaves the target as it is, and an accepted record fits its four bytes.
-use Rattle.std.proofs.Common.{◌≡◌, cond, length, is_some, Some, None, sym, ap, ◌∙◌}
+use Rattle.std.proofs.Common.{◌≡◌, cond, length, is_some, Some, sym, ap, ◌∙◌}
 use Rattle.std.proofs.lemmas.Result.{err_from_is_err_and}
 use Rattle.std.proofs.lemmas.Bool.{eqb-true}
 use Rattle.faults.proofs.Answers.{check_refuses, check_accepts, check_passed, answer_refused}
