@@ -1,6 +1,6 @@
 -- What the parts of a reading give together. Assumes nothing.
 use Rattle.std.proofs.Common.{◌≡◌, ℕ, ◌^◌, ◌<◌, ◌≤◌, Bool, true, false, cond, ltb, List, ◌++◌, length, take, drop, is_some, IfOk, Some, None, Ok, Err, Option, Result, sym, refl, ap, ◌∙◌, ap₂, arith}
-use Rattle.std.specs.List.{AllByRecursion as All}
+use Rattle.std.specs.List.{AllByRecursion}
 use Rattle.std.proofs.lemmas.List.{take_all}
 use Rattle.std.proofs.lemmas.Bool.{le-ltb, lt-ltb, eqb-true}
 use Rattle.faults.specs.Faults.{answer}
@@ -51,7 +51,7 @@ module _ (f : Tables) (p : Plan) (row : List Bool) (found list : List ℕ) (coun
   found_is = gathered ∙ take_all 32 (plan_cover f p row) (omega (arith, (planned p).d_high))
 
   -- and numbers of cards
-  pub found_below : f.order ≡ p.q → All (λ x. x < p.q ^ p.k) (take count found)
+  pub found_below : f.order ≡ p.q → AllByRecursion (λ x. x < p.q ^ p.k) (take count found)
   found_below order = rw (found_is, ← order) (set_below (f.order ^ p.k) (plan_cover f p row) (cover_set f p.n p.k p.e row))
 
   no_overload : ltb p.d (length (plan_cover f p row)) ≡ false

@@ -1,6 +1,6 @@
 -- The slots of a word: those that a test passes, and those that a set's joined words have. Assumes nothing.
 use Rattle.std.proofs.Common.{◌≡◌, ℕ, ◌+◌, ◌-◌, ◌*◌, ◌/◌, ◌%◌, ◌^◌, ◌<◌, ◌≤◌, Bool, true, false, cond, ◌&&◌, ◌||◌, eqb, List, [], ◌∷◌, length, sym, refl, ap, ◌∙◌, inl, inr, suc-mul, div-add-mod', arith}
-use Rattle.std.specs.List.{AllByRecursion as All}
+use Rattle.std.specs.List.{AllByRecursion}
 use Rattle.std.proofs.lemmas.Bool.{and_parts, and_from, and_right, or_cases, or_parts, or_left, or_right, eqb-true, eqb-false, eq-eqb}
 use Rattle.fields.specs.Lawful.{Tables, Lawful}
 use Rattle.frames.specs.Counting.{count}
@@ -26,7 +26,7 @@ joined_has f k (y ∷ ys) x slot m w =
     ]
 
 -- the word of a number outside a set shares at most k - 1 slots with each of the set's words
-pub overlap : (f : Tables) → Lawful f → (n k x : ℕ) (ys : List ℕ) → n ≤ f.order → x < f.order ^ k → All (λ y. y < f.order ^ k) ys → member ys x ≡ false
+pub overlap : (f : Tables) → Lawful f → (n k x : ℕ) (ys : List ℕ) → n ≤ f.order → x < f.order ^ k → AllByRecursion (λ y. y < f.order ^ k) ys → member ys x ≡ false
     → count (λ slot. in_word f k x slot && joined f k ys slot) (n * f.order) ≤ length ys * (k - 1)
 unfolding joined
 overlap f l n k x [] hn hx all out =

@@ -1,6 +1,6 @@
 -- Sets of numbers as ascending lists: their members, and when two of them are equal. Assumes nothing.
 use Rattle.std.proofs.Common.{◌≡◌, ℕ, zero, suc, ◌+◌, ◌<◌, ◌≤◌, Bool, true, false, cond, ◌||◌, eqb, ◌⊎◌, List, [], ◌∷◌, length, get_or, filter, sym, refl, ap, ◌∙◌, inl, inr, arith}
-use Rattle.std.specs.List.{range_with_len, AllByRecursion as All}
+use Rattle.std.specs.List.{range_with_len, AllByRecursion}
 use Rattle.std.proofs.lemmas.Bool.{cases_eq, false≢true, eq-eqb, ne_eqb, or_from, or_left}
 use Rattle.frames.specs.Frames.{differ}
 use Rattle.frames.proofs.Counting.{some_or_none}
@@ -53,7 +53,7 @@ ascends_set low bound xs a =
     record { ascending = ascends_order low bound xs a; below = λ i l. (ascends_within low bound xs a i l).1 }
 
 -- the numbers of a set are below its bound
-pub set_below : (bound : ℕ) (xs : List ℕ) → NumberSet bound xs → All (λ x. x < bound) xs
+pub set_below : (bound : ℕ) (xs : List ℕ) → NumberSet bound xs → AllByRecursion (λ x. x < bound) xs
 set_below bound [] s = tt
 set_below bound (x ∷ xs) s = (s.below 0 (omega arith), set_below bound xs (set_rest bound x xs s))
 

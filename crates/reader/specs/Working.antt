@@ -1,7 +1,7 @@
 -- How a reading is worked out: all words that differ only in the lowest coefficient are decided together. No public
 -- contract speaks of these. Assumes nothing.
 use Rattle.std.specs.Prelude.{◌≡◌, ℕ, ◌+◌, ◌-◌, ◌*◌, ◌/◌, ◌%◌, ◌^◌, ◌<◌, ◌≤◌, Bool, false, List, length, get_or, count_by, filter, nat_eq, slice_index_or}
-use Rattle.std.specs.List.{range_with_len, AllByRecursion as All}
+use Rattle.std.specs.List.{range_with_len, AllByRecursion}
 use Rattle.fields.specs.Answers.{negative_of}
 use Rattle.fields.specs.Lawful.{Tables}
 use Rattle.words.specs.Words.{digit, value}
@@ -58,7 +58,7 @@ pub record Reached (f : Tables) (p : Plan) (pairs : List Pair) (bases : List ℕ
 
 -- spots of a row of n places and q symbols
 abbrev pub Within : ℕ → ℕ → List Spot → Type 0
-Within n q spots = All (λ spot. (spot.place < n) × (spot.symbol < q)) spots
+Within n q spots = AllByRecursion (λ spot. (spot.place < n) × (spot.symbol < q)) spots
 
 -- how many of some spots the word with lowest coefficient c goes through
 abbrev pub spot_votes : Tables → ℕ → ℕ → ℕ → List Spot → ℕ

@@ -1,6 +1,6 @@
 //! How far a row lies from the joined words of some numbers.
 ghost use Rattle.std.specs.Prelude.{◌≡◌, ℕ, ◌*◌, ◌^◌, ◌<◌, false, ◌||◌, length, slice_index_or};
-ghost use Rattle.std.specs.List.{AllByRecursion as All};
+ghost use Rattle.std.specs.List.{AllByRecursion};
 ghost use Rattle.frames.specs.Counting.{count};
 ghost use Rattle.frames.specs.Frames.{differ};
 ghost use Rattle.words.specs.Words.{in_word};
@@ -56,7 +56,7 @@ pub(crate) fn distance_from<F: Field>(
     numbers: &[u32],
     row: &[bool],
 ) -> u32
-    requires { (Tabled (F.Field.tables field.now) plan.now pairs.now bases.now) × ((All (λ x. x < plan.now.q ^ plan.now.k) numbers.now) × (length row.now ≡ plan.now.n * plan.now.q)) }
+    requires { (Tabled (F.Field.tables field.now) plan.now pairs.now bases.now) × ((AllByRecursion (λ x. x < plan.now.q ^ plan.now.k) numbers.now) × (length row.now ≡ plan.now.n * plan.now.q)) }
     ensures { result ≡ distance (F.Field.tables field.now) plan.now.n plan.now.k row.now numbers.now }
 {
     let mut joined = [false; 4096];

@@ -1,6 +1,6 @@
 -- What a reading says at the end of any run. Assumes nothing.
 use Rattle.std.proofs.Common.{◌≡◌, ℕ, zero, suc, ◌+◌, ◌^◌, ◌<◌, ◌≤◌, Bool, true, false, cond, not, eqb, ltb, List, [], ◌∷◌, length, None, filter, Option, sym, refl, ap, ◌∙◌, ap₂, arith}
-use Rattle.std.specs.List.{range_with_len, AllByRecursion as All}
+use Rattle.std.specs.List.{range_with_len, AllByRecursion}
 use Rattle.std.proofs.lemmas.Bool.{and_parts, cond-true, le-leb, lt-ltb, true≢false}
 use Rattle.fields.specs.Lawful.{Tables, Lawful}
 use Rattle.words.specs.declared.plan.Plan.{Plan}
@@ -51,7 +51,7 @@ near_few f l n k e row xs hn cards near =
     )
 
 -- enrolled numbers have no smallest that is foreign
-none_foreign : {N : Type 0} (entries : List (Option N)) (numbers : List ℕ) → All (λ number. enrolled entries number ≡ true) numbers → smallest_foreign entries numbers ≡ None
+none_foreign : {N : Type 0} (entries : List (Option N)) (numbers : List ℕ) → AllByRecursion (λ number. enrolled entries number ≡ true) numbers → smallest_foreign entries numbers ≡ None
 none_foreign entries [] all = refl
 none_foreign entries (x ∷ xs) all =
     let rest = filter (λ number. not (enrolled entries number)) xs in
@@ -59,7 +59,7 @@ none_foreign entries (x ∷ xs) all =
 
 -- a reading of enrolled numbers names them
 pub read_named : {N : Type 0} (f : Tables) (p : Plan) (entries : List (Option N)) (row : List Bool) (xs : List ℕ) → verdict f p.n p.k p.d p.e row ≡ told.Reading (length xs)
-    → cover f p.n p.k p.e row ≡ xs → All (λ number. enrolled entries number ≡ true) xs → judged f p entries row ≡ Named (length xs)
+    → cover f p.n p.k p.e row ≡ xs → AllByRecursion (λ number. enrolled entries number ≡ true) xs → judged f p entries row ≡ Named (length xs)
 read_named f p entries row xs read same known = ap₂ with_names read (ap (smallest_foreign entries) same ∙ none_foreign entries xs known)
 
 -- more than d covered words are an overload

@@ -1,6 +1,6 @@
 -- What every call keeps, accepted or refused, and so every run. Assumes nothing.
 use Rattle.std.proofs.Common.{◌≡◌, ℕ, ◌+◌, ◌*◌, ◌^◌, ◌<◌, ◌≤◌, Bool, true, false, cond, not, ltb, List, [], length, get_or, set, replicate, is_some, Some, None, Option, sym, refl, ap, ◌∙◌, arith}
-use Rattle.std.specs.List.{AllByRecursion as All}
+use Rattle.std.specs.List.{AllByRecursion}
 use Rattle.std.proofs.lemmas.List.{length-replicate, length-set}
 use Rattle.std.proofs.lemmas.Bool.{and_parts, both_ways, eqb-true, ltb-true, not-true}
 use Rattle.faults.specs.declared.fault.Fault.{Fault}
@@ -27,7 +27,7 @@ pub record Speaking {N : Type 0} (f : Tables) (p : Plan) (entries : List (Option
   pub order : f.order ≡ p.q
   pub long : length row ≡ p.n * p.q
   pub cards : NumberSet (f.order ^ p.k) ticked
-  pub known : All (λ number. enrolled entries number ≡ true) ticked
+  pub known : AllByRecursion (λ number. enrolled entries number ≡ true) ticked
   pub near : distance f p.n p.k row ticked ≤ knocks
 
 -- what a rack and a book keep

@@ -1,6 +1,6 @@
 -- What a verdict's line of text tells: no number of it is large, and there are few. Assumes nothing.
 use Rattle.std.proofs.Common.{◌≡◌, ℕ, ◌-◌, ◌*◌, ◌^◌, ◌<◌, ◌≤◌, Bool, true, false, cond, not, eqb, ltb, leb, List, [], ◌∷◌, ◌++◌, length, get_or, take, drop, is_some, Some, None, Ok, Err, filter, Option, Result, sym, refl, ap, ◌∙◌, ap₂, arith}
-use Rattle.std.specs.List.{AllByRecursion as All}
+use Rattle.std.specs.List.{AllByRecursion}
 use Rattle.std.proofs.lemmas.Nat.{mul-le}
 use Rattle.std.proofs.ByRecursion.{All-weaker, all_kept_by}
 use Rattle.std.proofs.lemmas.List.{take_at}
@@ -32,7 +32,7 @@ use Rattle.register.proofs.Refusing.{new_left}
 
 -- every number of a list has at most five digits
 abbrev Small : List ℕ → Type 0
-Small xs = All (λ x. x < 100000) xs
+Small xs = AllByRecursion (λ x. x < 100000) xs
 
 -- the values of a reading by names are small where its numbers and their count are
 named_small : (xs : List ℕ) (count : ℕ) → Small xs → count < 100000 → Small (values (by_names (first_of xs) count))

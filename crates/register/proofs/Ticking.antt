@@ -1,6 +1,6 @@
 -- What a tick, a knock and an opened frame do to the distance of the ticked cards from the line. Assumes nothing.
 use Rattle.std.proofs.Common.{◌≡◌, ℕ, suc, ◌+◌, ◌*◌, ◌<◌, ◌≤◌, Bool, true, false, cond, ◌||◌, eqb, ltb, List, [], ◌∷◌, length, get_or, set, replicate, sym, refl, ap, ◌∙◌, ap₂, inl, inr, arith}
-use Rattle.std.specs.List.{AllByRecursion as All}
+use Rattle.std.specs.List.{AllByRecursion}
 use Rattle.std.proofs.lemmas.List.FromFn.{length-map-range_with_len, get_or-map-range_with_len}
 use Rattle.std.proofs.lemmas.List.{get_or_past, get_or-replicate, get_or-set_other, length-replicate}
 use Rattle.std.proofs.lemmas.Bool.{cases_lt, eqb-true, eqb-false, ltb-true, ltb-false}
@@ -31,11 +31,11 @@ with_number_set bound x xs below s =
     ascends_set 0 bound (with_number x xs) (with_ascends 0 bound x xs (omega arith) below (set_ascends 0 bound xs (λ l. omega arith) s))
 
 -- what holds of a number and of all numbers of a list holds of all numbers of the list with it
-pub with_number_all : (P : ℕ → Type 0) (x : ℕ) (xs : List ℕ) → P x → All P xs → All P (with_number x xs)
+pub with_number_all : (P : ℕ → Type 0) (x : ℕ) (xs : List ℕ) → P x → AllByRecursion P xs → AllByRecursion P (with_number x xs)
 with_number_all P x [] here all = (here, tt)
 with_number_all P x (y ∷ ys) here all = go (ltb x y) (eqb x y) (with_number_all P x ys here all.1)
   where
-    go : (b c : Bool) → All P (with_number x ys) → All P (cond b (x ∷ y ∷ ys) (cond c (y ∷ ys) (y ∷ with_number x ys)))
+    go : (b c : Bool) → AllByRecursion P (with_number x ys) → AllByRecursion P (cond b (x ∷ y ∷ ys) (cond c (y ∷ ys) (y ∷ with_number x ys)))
     go true c later = (here, all)
     go false true later = all
     go false false later = (all.0, later)

@@ -1,7 +1,7 @@
 -- Bytes that are written into a text one after the other. Assumes nothing.
 use Rattle.std.proofs.Common.{◌≡◌, ℕ, ◌+◌, ◌*◌, ◌/◌, ◌%◌, ◌^◌, ◌<◌, ◌≤◌, List, [], ◌∷◌, ◌++◌, length, get_or, take, drop, set, decimal, sym, refl, ap, ◌∙◌, ap₂, append_assoc, arith}
 use native.Mathlib.Numerals.{unary_clauses}
-use Rattle.std.specs.List.{flat_map, AllByRecursion as All}
+use Rattle.std.specs.List.{flat_map, AllByRecursion}
 use lib.Seq.{paste}
 use Rattle.std.proofs.lemmas.Fmt.{decimal_digit, decimal_step, length-decimal-le}
 use Rattle.std.proofs.lemmas.List.Edits.{paste_all, paste-paste}
@@ -90,7 +90,7 @@ pub decimal_short : (number : ℕ) → number < 100000 → length (decimal numbe
 decimal_short number small = length-decimal-le 5 number (omega arith) (omega arith) (omega arith)
 
 -- fields of such numbers are at most six bytes each
-fields_short : (numbers : List ℕ) → All (λ x. x < 100000) numbers → length (flat_map field numbers) ≤ 6 * length numbers
+fields_short : (numbers : List ℕ) → AllByRecursion (λ x. x < 100000) numbers → length (flat_map field numbers) ≤ 6 * length numbers
 fields_short [] small = omega arith
 fields_short (x ∷ xs) small =
     let one = decimal_short x small.0 in
@@ -107,14 +107,14 @@ pub foreign_heading : (v : Verdict) (smallest count : ℕ) → v ≡ Foreign sma
 foreign_heading v smallest count e = ap (λ r. (70 ∷ field smallest) ++ r) (sym (append-nil (field count))) ∙ ap heading (sym e)
 
 -- the front of a line is at most thirteen bytes
-pub heading_short : (v : Verdict) → All (λ x. x < 100000) (values v) → length (heading v) ≤ 13
+pub heading_short : (v : Verdict) → AllByRecursion (λ x. x < 100000) (values v) → length (heading v) ≤ 13
 heading_short (Overload count) small = omega (arith, fields_short (count ∷ []) small)
 heading_short (Noise distance) small = omega (arith, fields_short (distance ∷ []) small)
 heading_short (Foreign smallest count) small = omega (arith, fields_short (smallest ∷ count ∷ []) small)
 heading_short (Named count) small = omega (arith, fields_short (count ∷ []) small)
 
 -- where the line has come to: thirteen bytes at most for its front, and six for each number so far
-pub place_so_far : (v : Verdict) (numbers : List ℕ) (start end i : ℕ) → All (λ x. x < 100000) (values v) → All (λ x. x < 100000) numbers → i ≤ length numbers
+pub place_so_far : (v : Verdict) (numbers : List ℕ) (start end i : ℕ) → AllByRecursion (λ x. x < 100000) (values v) → AllByRecursion (λ x. x < 100000) numbers → i ≤ length numbers
     → start ≡ length (heading v) → end ≡ start + length (flat_map field (take i numbers)) → end ≤ 13 + 6 * i
 place_so_far v numbers start end i front small within first place =
     let some = length-take-le i numbers within in

@@ -13,7 +13,7 @@ pub struct Register<'a, N: Name> {
     ghost small: { nat_le (length entries.now) 65536 ≡ true },
 }
 
-mod frames;
+mod frame_calls;
 mod judging;
 mod lookup;
 mod numbered;

@@ -1,6 +1,6 @@
 //! A verdict's line of text.
 ghost use Rattle.std.specs.Prelude.{◌≡◌, ◌+◌, ◌<◌, ◌≤◌, ◌∷◌, ◌++◌, length, drop, decimal};
-ghost use Rattle.std.specs.List.{AllByRecursion as All};
+ghost use Rattle.std.specs.List.{AllByRecursion};
 ghost use Rattle.register.specs.Texts.{field, verdict_line};
 ghost use Rattle.register.specs.Verdicts.{values};
 ghost use Rattle.register.specs.Writing.{over, heading};
@@ -10,7 +10,7 @@ use crate::verdict::Verdict;
 /// Writes the line of a verdict and of the numbers that it lists into a text, and answers how many bytes it has. The rest
 /// of the text stays.
 pub(crate) fn write_line(verdict: Verdict, numbers: &[u32], text: &mut [u8]) -> usize
-    requires { (All (λ x. x < 100000) (values verdict)) × ((All (λ x. x < 100000) numbers.now) × ((length numbers.now ≤ 32) × (256 ≤ length text.old))) }
+    requires { (AllByRecursion (λ x. x < 100000) (values verdict)) × ((AllByRecursion (λ x. x < 100000) numbers.now) × ((length numbers.now ≤ 32) × (256 ≤ length text.old))) }
     ensures count { result ≡ length (verdict_line verdict numbers.now) }
     ensures after { text.new ≡ verdict_line verdict numbers.now ++ drop (length (verdict_line verdict numbers.now)) text.old }
 {
@@ -24,7 +24,7 @@ pub(crate) fn write_line(verdict: Verdict, numbers: &[u32], text: &mut [u8]) -> 
 
 /// Writes the letter and the values of a verdict at the front of a text, and answers the place after them.
 fn write_verdict(verdict: Verdict, text: &mut [u8]) -> usize
-    requires { (All (λ x. x < 100000) (values verdict)) × (13 ≤ length text.old) }
+    requires { (AllByRecursion (λ x. x < 100000) (values verdict)) × (13 ≤ length text.old) }
     ensures end { result ≡ length (heading verdict) }
     ensures after { text.new ≡ over text.old 0 (heading verdict) }
 {

@@ -5,7 +5,7 @@ ghost use Rattle.register.specs.Calls.{text_refusal, list_left, unless};
 ghost use Rattle.register.specs.Texts.{told_line, with_line, listed_count};
 
 use crate::register::Register;
-use crate::register::frames::has_slots;
+use crate::register::frame_calls::has_slots;
 use crate::text::write_line;
 use crate::verdict::Verdict;
 use faults::{Fault, Refusal, refuse_unless};

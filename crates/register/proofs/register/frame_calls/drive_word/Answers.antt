@@ -3,7 +3,7 @@ use Rattle.std.proofs.Common.{◌≡◌, ◌*◌, ◌<◌, length, sym, refl, ap
 use Rattle.words.specs.Words.{slot_at}
 use Rattle.frames.proofs.Slots.{slot_accepts}
 use Rattle.register.proofs.Driving.{place_accepts, slot_told, driven_more, driven_all}
-use Rattle.register.proofs.register.frames.drive_word.Goals as goal
+use Rattle.register.proofs.register.frame_calls.drive_word.Goals as goal
 
 pub returns-in_err-slot : goal.returns-in_err-slot
 returns-in_err-slot g c =

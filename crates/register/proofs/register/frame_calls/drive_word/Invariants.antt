@@ -1,6 +1,6 @@
 use Rattle.std.proofs.Common.{◌≡◌, ℕ, ◌*◌, ◌/◌, ◌<◌, false, ◌&&◌, ◌||◌, ltb, get_or}
 use Rattle.words.specs.Words.{in_word}
-use Rattle.register.proofs.register.frames.drive_word.Given as goal
+use Rattle.register.proofs.register.frame_calls.drive_word.Given as goal
 
 -- the slots of the places so far are driven, and what is kept stays
 abbrev pub invariant-loop-place : goal.invariant-loop-place

@@ -3,7 +3,7 @@ use Rattle.std.proofs.Common.{false, not, length, get_or, sym, refl}
 use Rattle.std.proofs.lemmas.List.{set_past}
 use Rattle.std.proofs.lemmas.Result.{err_from_is_err_and}
 use Rattle.register.proofs.Driving.{slot_past, slot_alike}
-use Rattle.register.proofs.register.frames.turn_over.Goals as goal
+use Rattle.register.proofs.register.frame_calls.turn_over.Goals as goal
 
 pub returns-in_err-look : goal.returns-in_err-look
 returns-in_err-look g c =
