@@ -31,15 +31,15 @@ DistanceDecidesEveryReading =
 
 -- the promises of a reader on one line, for the list as it is then, what it says of a set that is read, and what it says
 -- where none is
-pub record DecidedByDistance (f : Tables) (n k d e : ℕ) (row : List Bool) (list : List ℕ) (Says-it-is-read : List ℕ → Type 0) (Says-none-is-read : Type 0) : Type 0 where
+pub record DecidedByDistance (f : Tables) (n k d e : ℕ) (row : List Bool) (list : List ℕ) (SaysItIsRead : List ℕ → Type 0) (SaysNoneIsRead : Type 0) : Type 0 where
   -- the distance between two different sets of at most d words is at least n - d(k-1)
   pub sets_lie_far_apart : (xs ys : List ℕ) → Speakers f k d xs → Speakers f k d ys → (xs ≢ ys) → n - d * (k - 1) ≤ distance_between f n k xs ys
   -- of the sets of at most d words, none or one lies within e slots of the line
   pub at_most_one_set_is_near : (xs ys : List ℕ) → Speakers f k d xs → Speakers f k d ys → distance f n k row xs ≤ e → distance f n k row ys ≤ e → xs ≡ ys
   -- if one does, the reader says that it is read, and the list begins with exactly that set
-  pub a_near_set_is_read : (xs : List ℕ) → Speakers f k d xs → distance f n k row xs ≤ e → Says-it-is-read xs × (take (length xs) list ≡ xs)
+  pub a_near_set_is_read : (xs : List ℕ) → Speakers f k d xs → distance f n k row xs ≤ e → SaysItIsRead xs × (take (length xs) list ≡ xs)
   -- if none does, the reader says that none is read
-  pub no_near_set_is_no_reading : ((xs : List ℕ) → Speakers f k d xs → distance f n k row xs ≤ e → ⊥) → Says-none-is-read
+  pub no_near_set_is_no_reading : ((xs : List ℕ) → Speakers f k d xs → distance f n k row xs ≤ e → ⊥) → SaysNoneIsRead
 
 -- the promises for a verdict before anyone's name is asked: a reading of as many numbers, or overload or noise
 abbrev pub ReadByDistance : Tables → ℕ → ℕ → ℕ → ℕ → List Bool → Verdict → List ℕ → Type 0

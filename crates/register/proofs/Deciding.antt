@@ -86,13 +86,13 @@ speaking_decides same f l p s b list kept now =
     record {
       roll_is_kept = kept.roll_is_kept;
       names_differ = kept.names_differ;
-      ticked_cards_are_named = λ few-knocks few.
+      ticked_cards_are_named = λ few_knocks few.
           let near : distance f p.n p.k s.row b.ticked ≤ p.e = omega (arith, now.near) in
           let speakers : Speakers f p.k p.d b.ticked = record { cards = now.cards; few = few } in
           let read = near_read f l p.n p.k p.d p.e hn far s.row b.ticked speakers near in
           let same_cover = near_cover f l p.n p.k p.d p.e hn far s.row b.ticked speakers near in
           (read_named f p s.entries s.row b.ticked read same_cover now.known, read_listed f p.n p.k p.d p.e s.row list b.ticked read same_cover);
-      more_ticked_cards_overload = λ few-knocks many.
+      more_ticked_cards_overload = λ few_knocks many.
           many_overload f p s.entries s.row (omega (arith, near_few f l p.n p.k p.e s.row b.ticked hn now.cards (omega (arith, now.near))));
     }
 

@@ -1,5 +1,5 @@
-use Rattle.words.proofs.RecordLaws.{read_back as reads-back, write_back as writes-back}
+use Rattle.words.proofs.RecordLaws.{read_back as reads_back, write_back as writes_back}
 use Rattle.words.proofs.laws.records_give_each_other_back.Goals as goal
 
 pub returns : goal.returns
-returns c = record { read_back = reads-back; write_back = writes-back }
+returns c = record { read_back = reads_back; write_back = writes_back }
