@@ -1,2 +1,3 @@
-pub mod Names
+pub mod Extensions
 pub mod Labels
+pub mod Names

@@ -1,6 +1,6 @@
 //! Names that are numbers of extensions.
 ghost use Rattle.std.specs.Prelude.{◌≡◌, ◌==◌};
-ghost use Rattle.std.proofs.Common.{rules};
+ghost use Rattle.names.specs.Extensions.{numbers_alike};
 
 use crate::name::Name;
 
@@ -30,7 +30,7 @@ impl Extension {
 impl Name for Extension {
     ghost same = { λ a b. (a.number == b.number) };
 
-    ghost alike = { Prim.search rules };
+    ghost alike = { numbers_alike (λ extension. extension.number) };
 
     fn is_same(&self, other: &Extension) -> bool {
         self == other

@@ -5,7 +5,7 @@ use Rattle.std.proofs.lemmas.Bool.{le-leb, lt-leb, le-ltb, ltb-false}
 use Rattle.fields.specs.Lawful.{Tables, Lawful}
 use Rattle.words.proofs.Limits.{Limits, limits}
 use Rattle.reader.specs.Distances.{joined, distance, distance_between, clear_slots, covered, cover}
-use Rattle.reader.specs.Promises.{Speakers, DistanceDecidesEveryReading, ReadByDistance}
+use Rattle.reader.specs.Promises.{Speakers, DistanceDecides, DistanceDecidesEveryReading, ReadByDistance}
 use Rattle.reader.specs.Sets.{NumberSet}
 use Rattle.reader.specs.Verdicts.{verdict, is_reading, listed}
 use Rattle.reader.specs.declared.verdict.Verdict.{Verdict}
@@ -95,10 +95,9 @@ none_read f n k d e row none = told (ltb d (length c)) (ltb e (distance f n k ro
     told false false ea eb =
         absurd (none c (record { cards = cover_set f n k e row; few = ltb-false d (length c) ea }) (ltb-false e (distance f n k row c) eb))
 
--- distance decides every reading
-pub distance_decides : DistanceDecidesEveryReading
-distance_decides f l n k d e plan row size =
-    let known = limits f.order n k d e plan in
+-- distance decides the reading of one line
+decides : (f : Tables) → Lawful f → (n k d e : ℕ) → Limits f.order n k d e → (row : List Bool) → DistanceDecides f n k d e row
+decides f l n k d e known row =
     let hn = known.n_high in
     let far = known.far_apart in
     record {
@@ -108,15 +107,20 @@ distance_decides f l n k d e plan row size =
       no_near_set_is_no_reading = none_read f n k d e row;
     }
 
+-- distance decides every reading
+pub distance_decides : DistanceDecidesEveryReading
+distance_decides f l n k d e plan row size = decides f l n k d e (limits f.order n k d e plan) row
+
 -- distance decides the verdict of a reader, and the list after it
 pub reading_decided : (f : Tables) → Lawful f → (n k d e : ℕ) → Limits f.order n k d e → (row : List Bool) (list : List ℕ)
     → ReadByDistance f n k d e row (verdict f n k d e row) (listed f n k d e row list)
 reading_decided f l n k d e known row list =
-    let hn = known.n_high in
-    let far = known.far_apart in
+    let decided = decides f l n k d e known row in
     record {
-      sets_lie_far_apart = λ xs ys s t different. omega (arith, different_far f l n k d hn xs ys s t different);
-      at_most_one_set_is_near = near_same f l n k d e hn far row;
-      a_near_set_is_read = λ xs s near. (near_read f l n k d e hn far row xs s near, read_listed f n k d e row list xs (near_read f l n k d e hn far row xs s near) (near_cover f l n k d e hn far row xs s near));
-      no_near_set_is_no_reading = none_read f n k d e row;
+      sets_lie_far_apart = decided.sets_lie_far_apart;
+      at_most_one_set_is_near = decided.at_most_one_set_is_near;
+      a_near_set_is_read = λ xs s near.
+          let read = decided.a_near_set_is_read xs s near in
+          (read.0, read_listed f n k d e row list xs read.0 read.1);
+      no_near_set_is_no_reading = decided.no_near_set_is_no_reading;
     }
