@@ -1,4 +1,5 @@
 //! Refusals print their number, their meaning and their figure.
+use crate::answers::refused;
 use faults::{Fault, Refusal, refuse_unless};
 use std::test::Fail;
 
@@ -22,6 +23,6 @@ fn a_check_refuses_where_its_test_fails(rt: HostRuntime) {
     assert_eq!(rt; refuse_unless(true, Refusal::Room, 3), Ok(()));
     assert_eq!(rt;
         refuse_unless(false, Refusal::Room, 3),
-        Err(Fault::new(Refusal::Room, 3))
+        refused(Refusal::Room, 3)
     );
 }

@@ -1,4 +1,5 @@
 //! Which fields there are, and what their calls answer at the edges.
+use crate::answers::refused;
 use faults::{Fault, Refusal};
 use fields::{AnyField, Binary, Field, FieldChoice, Prime};
 use std::process::Abort;
@@ -8,17 +9,9 @@ const PRIMES: [u32; 18] = [
     2, 3, 5, 7, 11, 13, 17, 19, 23, 29, 31, 37, 41, 43, 47, 53, 59, 61,
 ];
 
-fn no_field(parameter: u32) -> Fault {
-    Fault::new(Refusal::Field, parameter as u64)
-}
-
-fn no_element(index: u32) -> Fault {
-    Fault::new(Refusal::Element, index as u64)
-}
-
 /// The order of a chosen field, or its refusal.
 fn order_of(choice: FieldChoice) -> Result<u32, Fault> {
-    Ok(AnyField::new(choice)?.order())
+    Ok(AnyField::try_from(choice)?.order())
 }
 
 #[test]
@@ -27,26 +20,32 @@ fn every_prime_up_to_61_is_a_field_and_nothing_else(rt: HostRuntime) {
         let expected = if PRIMES.contains(&p) {
             Ok(p)
         } else {
-            Err(no_field(p))
+            refused(Refusal::Field, p as u64)
         };
         assert_eq!(rt; order_of(FieldChoice::Prime(p)), expected);
     }
     assert_eq!(rt;
         order_of(FieldChoice::Prime(u32::MAX)),
-        Err(no_field(u32::MAX))
+        refused(Refusal::Field, u32::MAX as u64)
     );
 }
 
 #[test]
 fn binary_fields_go_from_4_to_64_elements(rt: HostRuntime) {
-    assert_eq!(rt; order_of(FieldChoice::Binary(1)), Err(no_field(1)));
+    assert_eq!(rt;
+        order_of(FieldChoice::Binary(1)),
+        refused(Refusal::Field, 1)
+    );
     for (m, order) in [(2, 4), (3, 8), (4, 16), (5, 32), (6, 64)] {
         assert_eq!(rt; order_of(FieldChoice::Binary(m)), Ok(order));
     }
-    assert_eq!(rt; order_of(FieldChoice::Binary(7)), Err(no_field(7)));
+    assert_eq!(rt;
+        order_of(FieldChoice::Binary(7)),
+        refused(Refusal::Field, 7)
+    );
     assert_eq!(rt;
         order_of(FieldChoice::Binary(u32::MAX)),
-        Err(no_field(u32::MAX))
+        refused(Refusal::Field, u32::MAX as u64)
     );
 }
 
@@ -76,22 +75,25 @@ fn prime_sums_and_products_are_taken_modulo_p(rt: HostRuntime) -> Result<(), Fai
 #[test]
 fn the_first_index_that_is_no_element_is_refused(rt: HostRuntime) -> Result<(), Fail> {
     let five = Prime::new(5)?;
-    assert_eq!(rt; five.sum(5, 9), Err(no_element(5)));
-    assert_eq!(rt; five.sum(4, 5), Err(no_element(5)));
-    assert_eq!(rt; five.product(0, u32::MAX), Err(no_element(u32::MAX)));
-    assert_eq!(rt; five.negative(5), Err(no_element(5)));
-    assert_eq!(rt; five.inverse(0), Err(no_element(0)));
-    assert_eq!(rt; five.inverse(5), Err(no_element(5)));
+    assert_eq!(rt; five.sum(5, 9), refused(Refusal::Element, 5));
+    assert_eq!(rt; five.sum(4, 5), refused(Refusal::Element, 5));
+    assert_eq!(rt;
+        five.product(0, u32::MAX),
+        refused(Refusal::Element, u32::MAX as u64)
+    );
+    assert_eq!(rt; five.negative(5), refused(Refusal::Element, 5));
+    assert_eq!(rt; five.inverse(0), refused(Refusal::Element, 0));
+    assert_eq!(rt; five.inverse(5), refused(Refusal::Element, 5));
     let four = Binary::new(2)?;
-    assert_eq!(rt; four.sum(4, 9), Err(no_element(4)));
-    assert_eq!(rt; four.inverse(0), Err(no_element(0)));
-    assert_eq!(rt; four.negative(4), Err(no_element(4)));
+    assert_eq!(rt; four.sum(4, 9), refused(Refusal::Element, 4));
+    assert_eq!(rt; four.inverse(0), refused(Refusal::Element, 0));
+    assert_eq!(rt; four.negative(4), refused(Refusal::Element, 4));
     Ok(())
 }
 
 /// Checks that every element has its negative, and every element but 0 its inverse.
 fn partners_meet(rt: &impl Abort, choice: FieldChoice) -> Result<(), Fail> {
-    let field = AnyField::new(choice)?;
+    let field = AnyField::try_from(choice)?;
     for a in 0..field.order() {
         assert_eq!(rt; field.sum(a, field.negative(a)?), Ok(0));
         if a > 0 {

@@ -1,15 +1,8 @@
 //! Bit order, spare bits and distance of packed frames.
-use faults::{Fault, Refusal};
+use crate::answers::refused;
+use faults::Refusal;
 use frames::{bytes_for, distance, look, put};
 use std::test::Fail;
-
-fn wrong_length(length: u64) -> Fault {
-    Fault::new(Refusal::Length, length)
-}
-
-fn no_slot(slot: u64) -> Fault {
-    Fault::new(Refusal::Slot, slot)
-}
 
 #[test]
 fn a_byte_holds_eight_slots_the_highest_bit_first(rt: HostRuntime) -> Result<(), Fail> {
@@ -17,10 +10,10 @@ fn a_byte_holds_eight_slots_the_highest_bit_first(rt: HostRuntime) -> Result<(),
     assert_eq!(rt; look(&frame, 0), Ok(true));
     assert_eq!(rt; look(&frame, 1), Ok(false));
     assert_eq!(rt; look(&frame, 15), Ok(true));
-    assert_eq!(rt; look(&frame, 16), Err(no_slot(16)));
+    assert_eq!(rt; look(&frame, 16), refused(Refusal::Slot, 16));
     put(&mut frame, 9, true)?;
     put(&mut frame, 0, false)?;
-    assert_eq!(rt; put(&mut frame, 16, true), Err(no_slot(16)));
+    assert_eq!(rt; put(&mut frame, 16, true), refused(Refusal::Slot, 16));
     assert_eq!(rt; frame, [0x00, 0x41]);
     Ok(())
 }
@@ -50,8 +43,8 @@ fn distance_counts_slots_and_no_spare_bits(rt: HostRuntime) {
 
 #[test]
 fn the_first_frame_of_the_wrong_length_is_refused(rt: HostRuntime) {
-    assert_eq!(rt; distance(&[0, 0, 0], &[0], 9), Err(wrong_length(3)));
-    assert_eq!(rt; distance(&[0, 0], &[0], 9), Err(wrong_length(1)));
-    assert_eq!(rt; distance(&[0], &[0], 0), Err(wrong_length(1)));
-    assert_eq!(rt; distance(&[0], &[0], u32::MAX), Err(wrong_length(1)));
+    assert_eq!(rt; distance(&[0, 0, 0], &[0], 9), refused(Refusal::Length, 3));
+    assert_eq!(rt; distance(&[0, 0], &[0], 9), refused(Refusal::Length, 1));
+    assert_eq!(rt; distance(&[0], &[0], 0), refused(Refusal::Length, 1));
+    assert_eq!(rt; distance(&[0], &[0], u32::MAX), refused(Refusal::Length, 1));
 }

@@ -2,6 +2,8 @@
 #![tactic(auto)]
 
 #[cfg(test)]
+mod answers;
+#[cfg(test)]
 mod faults_tests;
 #[cfg(test)]
 mod fields_tests;

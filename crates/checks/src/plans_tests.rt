@@ -1,14 +1,11 @@
 //! The limits of a plan, each at its edge.
+use crate::answers::refused;
 use faults::{Fault, Refusal};
 use words::Plan;
 
 /// How many cards a plan has, or its refusal.
 fn cards(q: u32, n: u32, k: u32, d: u32, e: u32) -> Result<u32, Fault> {
     Ok(Plan::new(q, n, k, d, e)?.cards())
-}
-
-fn refused(refusal: Refusal, figure: u64) -> Result<u32, Fault> {
-    Err(Fault::new(refusal, figure))
 }
 
 #[test]

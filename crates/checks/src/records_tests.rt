@@ -1,4 +1,5 @@
 //! Plan records, read and written, and each refusal in its order.
+use crate::answers::refused;
 use faults::{Fault, Refusal};
 use fields::FieldChoice;
 use std::test::Fail;
@@ -21,10 +22,6 @@ const LARGEST: PlanRecord = PlanRecord {
     e: 15,
     names: NameKind::RoomLabels,
 };
-
-fn refused(refusal: Refusal, figure: u64) -> Result<PlanRecord, Fault> {
-    Err(Fault::new(refusal, figure))
-}
 
 #[test]
 fn records_are_read(rt: HostRuntime) {
@@ -96,10 +93,7 @@ fn records_are_written_or_the_target_stays(rt: HostRuntime) -> Result<(), Fail> 
     LARGEST.write(&mut target)?;
     assert_eq!(rt; target, [0x46, 0x80, 0xA0, 0x7C]);
     let mut long = [0xAA; 5];
-    assert_eq!(rt;
-        PLAN_A.write(&mut long),
-        Err(Fault::new(Refusal::Length, 5))
-    );
+    assert_eq!(rt; PLAN_A.write(&mut long), refused(Refusal::Length, 5));
     assert_eq!(rt; long, [0xAA; 5]);
     Ok(())
 }
@@ -107,14 +101,7 @@ fn records_are_written_or_the_target_stays(rt: HostRuntime) -> Result<(), Fail> 
 /// What writing a record like the first, with another field and number of places, answers, and the target after it.
 fn writing(field: FieldChoice, n: u32) -> (Result<(), Fault>, [u8; 4]) {
     let mut target = [0xAA; 4];
-    let record = PlanRecord {
-        field,
-        n,
-        k: 2,
-        d: 2,
-        e: 1,
-        names: NameKind::Extensions,
-    };
+    let record = PlanRecord { field, n, ..PLAN_A };
     let answer = record.write(&mut target);
     (answer, target)
 }
@@ -122,9 +109,9 @@ fn writing(field: FieldChoice, n: u32) -> (Result<(), Fault>, [u8; 4]) {
 #[test]
 fn writing_refuses_what_reading_refuses(rt: HostRuntime) {
     let (answer, target) = writing(FieldChoice::Prime(62), 5);
-    assert_eq!(rt; answer, Err(Fault::new(Refusal::Field, 62)));
+    assert_eq!(rt; answer, refused(Refusal::Field, 62));
     assert_eq!(rt; target, [0xAA; 4]);
     let (answer, target) = writing(FieldChoice::Binary(2), 5);
-    assert_eq!(rt; answer, Err(Fault::new(Refusal::Range, 5)));
+    assert_eq!(rt; answer, refused(Refusal::Range, 5));
     assert_eq!(rt; target, [0xAA; 4]);
 }

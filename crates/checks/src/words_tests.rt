@@ -1,12 +1,9 @@
 //! Words, their slots and their frames.
-use faults::{Fault, Refusal};
+use crate::answers::refused;
+use faults::Refusal;
 use fields::{Binary, Prime};
 use std::test::Fail;
 use words::{Plan, place_and_symbol, slot, symbol, write_word};
-
-fn fault(refusal: Refusal, figure: u64) -> Fault {
-    Fault::new(refusal, figure)
-}
 
 #[test]
 fn symbols_and_slots_of_a_word(rt: HostRuntime) -> Result<(), Fail> {
@@ -28,19 +25,13 @@ fn symbols_and_slots_of_a_word(rt: HostRuntime) -> Result<(), Fail> {
 fn a_place_is_refused_in_order(rt: HostRuntime) -> Result<(), Fail> {
     let plan = Plan::new(5, 4, 2, 2, 0)?;
     let other = Binary::new(6)?;
-    assert_eq!(rt;
-        symbol(&other, &plan, 99, 99),
-        Err(fault(Refusal::Field, 64))
-    );
+    assert_eq!(rt; symbol(&other, &plan, 99, 99), refused(Refusal::Field, 64));
     let field = Prime::new(5)?;
-    assert_eq!(rt;
-        symbol(&field, &plan, 25, 99),
-        Err(fault(Refusal::Card, 25))
-    );
-    assert_eq!(rt; slot(&field, &plan, 24, 4), Err(fault(Refusal::Slot, 20)));
+    assert_eq!(rt; symbol(&field, &plan, 25, 99), refused(Refusal::Card, 25));
+    assert_eq!(rt; slot(&field, &plan, 24, 4), refused(Refusal::Slot, 20));
     assert_eq!(rt;
         slot(&field, &plan, 24, u32::MAX),
-        Err(fault(Refusal::Slot, 21474836475))
+        refused(Refusal::Slot, 21474836475)
     );
     Ok(())
 }
@@ -53,12 +44,12 @@ fn a_slot_has_a_place_and_a_symbol(rt: HostRuntime) -> Result<(), Fail> {
     assert_eq!(rt; place_and_symbol(&field, &plan, 24), Ok((4, 4)));
     assert_eq!(rt;
         place_and_symbol(&field, &plan, 25),
-        Err(fault(Refusal::Slot, 25))
+        refused(Refusal::Slot, 25)
     );
     let other = Prime::new(7)?;
     assert_eq!(rt;
         place_and_symbol(&other, &plan, 25),
-        Err(fault(Refusal::Field, 7))
+        refused(Refusal::Field, 7)
     );
     Ok(())
 }
@@ -87,17 +78,17 @@ fn a_refused_word_leaves_the_frame(rt: HostRuntime) -> Result<(), Fail> {
     let mut frame = [0xC3; 3];
     assert_eq!(rt;
         write_word(&other, &plan, 25, &mut frame),
-        Err(fault(Refusal::Field, 3))
+        refused(Refusal::Field, 3)
     );
     let field = Prime::new(5)?;
     assert_eq!(rt;
         write_word(&field, &plan, 25, &mut frame),
-        Err(fault(Refusal::Length, 3))
+        refused(Refusal::Length, 3)
     );
     let mut right = [0xC3; 4];
     assert_eq!(rt;
         write_word(&field, &plan, 25, &mut right),
-        Err(fault(Refusal::Card, 25))
+        refused(Refusal::Card, 25)
     );
     assert_eq!(rt; right, [0xC3; 4]);
     Ok(())

@@ -3,6 +3,7 @@ ghost use Rattle.std.specs.Prelude.{◌≡◌, Some, None};
 ghost use Rattle.faults.specs.Faults.{fault, printed, check, answer};
 
 use crate::refusal::Refusal;
+use std::error::Error;
 use std::fmt;
 
 /// What a refused call answers: which rule refused, and the figure that tells what was wrong.
@@ -40,9 +41,9 @@ impl fmt::Display for Fault {
     ghost output = { λ x. Some (printed x) };
 
     fn fmt<W: fmt::Write>(&self, f: &mut fmt::Formatter<W>) -> fmt::Result {
-        let number = self.refusal.number();
-        let meaning = self.refusal.meaning();
-        let figure = self.figure;
-        write!(f, "refusal {number}, {meaning}: {figure}")
+        let Fault { refusal, figure } = self;
+        write!(f, "refusal {}, {refusal}: {figure}", refusal.number())
     }
 }
+
+impl Error for Fault {}

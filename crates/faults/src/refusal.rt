@@ -78,7 +78,6 @@ impl fmt::Display for Refusal {
     ghost output = { λ x. Some (meaning x) };
 
     fn fmt<W: fmt::Write>(&self, f: &mut fmt::Formatter<W>) -> fmt::Result {
-        let words = self.meaning();
-        write!(f, "{words}")
+        f.write_str(self.meaning())
     }
 }

@@ -1,6 +1,6 @@
 -- The binary fields of degree 2 to 6 are lawful: by linearity each law of products comes down to the powers of two,
 -- and there it is a test that computes, once for every irreducible modulus. Assumes nothing.
-use Rattle.std.specs.Prelude.{◌≡◌, ℕ, zero, suc, ◌-◌, ◌^◌, ◌<◌, ◌≤◌, Bool, true, false, ◌&&◌, ◌==◌, nat_le, nat_lt, refl}
+use Rattle.std.specs.Prelude.{◌≡◌, ℕ, zero, suc, ◌-◌, ◌^◌, ◌<◌, ◌≤◌, Bool, true, false, ◌&&◌, ◌==◌, nat_lt, refl}
 use Rattle.std.proofs.Common.{arith}
 use Rattle.std.specs.Int.Bits.{xor_assoc, xor_self}
 use Rattle.fields.specs.Lawful.{Lawful}
@@ -9,7 +9,8 @@ use Rattle.fields.specs.Polynomials.{product, remainder, reduced_product, all_be
 use Rattle.fields.specs.Linear.{linear_agree, commutes, associates, reduced_left, reduced_right}
 use Rattle.fields.specs.Remainders.{reduced_product_below}
 use Rattle.fields.specs.Searching.{all_below_at}
-use Rattle.std.proofs.lemmas.Bool.{and_parts, eqb-true, ltb-true, leb-true}
+use Rattle.std.proofs.lemmas.Bool.Decides.{nat_tests}
+use Rattle.std.proofs.lemmas.Bool.{and_parts, eqb-true, ltb-true}
 use Rattle.std.proofs.lemmas.Nat.{pow_below, xor_comm, xor_lt}
 
 -- the tests of one modulus of degree m
@@ -71,9 +72,7 @@ all_pass = refl
 -- an irreducible modulus has degree m
 pub irreducible_degree : (m modulus : ℕ) → irreducible m modulus ≡ true → (2 ^ m ≤ modulus) × (modulus < 2 ^ suc m)
 unfolding irreducible
-irreducible_degree m modulus e =
-    let parts = and_parts (nat_le (2 ^ m) modulus) _ e in
-    (leb-true (2 ^ m) modulus parts.0, ltb-true modulus (2 ^ suc m) (and_parts (nat_lt modulus (2 ^ suc m)) _ parts.1).0)
+irreducible_degree m modulus e = (grind (arith, nat_tests), grind (arith, nat_tests))
 
 -- what the tests say of one irreducible modulus of degree at most 6
 module _ (m modulus : ℕ) (small : m ≤ 6) (e : irreducible m modulus ≡ true) where

@@ -1,5 +1,5 @@
 -- Which field a kind and its parameter choose. Assumes nothing.
-use Rattle.std.specs.Prelude.{cond, Some, None, Option}
+use Rattle.std.specs.Prelude.{◌≡◌, cond, Some, None, Option, Result, MatchResult}
 use Rattle.faults.specs.Faults.{fault}
 use Rattle.faults.specs.declared.fault.Fault.{Fault}
 use Rattle.faults.specs.declared.refusal.Refusal.TheVariants.{Field}
@@ -24,3 +24,7 @@ choice_tables (Binary m) = binary_tables m (house_modulus m)
 abbrev pub any_tables : AnyField → Tables
 any_tables (any.Prime f) = prime_tables f.p
 any_tables (any.Binary f) = binary_tables f.m f.modulus
+
+-- the result is a field with the tables that are chosen, or the refusal of a choice of no field
+abbrev pub Chooses : FieldChoice → Result AnyField Fault → Type 0
+Chooses choice r = MatchResult r (λ f. (choice_refusal choice ≡ None) × (any_tables f ≡ choice_tables choice)) (λ e. choice_refusal choice ≡ Some e)

@@ -1,8 +1,9 @@
 -- The two kinds of field: prime and binary. Assumes nothing.
 use Rattle.std.specs.Prelude.{ℕ, ◌+◌, ◌-◌, ◌*◌, ◌%◌, ◌^◌, Bool, not, ◌&&◌, [], ◌∷◌, ◌==◌, nat_le, slice_index}
 use Rattle.std.specs.Int.Bits.{bit_xor}
+use Rattle.std.specs.List.{list_all, range_with_len}
 use Rattle.fields.specs.Lawful.{Tables}
-use Rattle.fields.specs.Polynomials.{reduced_product, all_below, irreducible}
+use Rattle.fields.specs.Polynomials.{reduced_product, irreducible}
 
 -- sums and products modulo p
 abbrev pub prime_tables : ℕ → Tables
@@ -14,7 +15,7 @@ binary_tables m modulus = record { order = 2 ^ m; plus = bit_xor; times = reduce
 
 -- whether p is a prime: at least 2, and divided by no number from 2 to p - 1
 unfoldable pub prime : ℕ → Bool
-prime p = nat_le 2 p && all_below (λ d. not (p % (d + 2) == 0)) (p - 2)
+prime p = nat_le 2 p && list_all (λ d. not (p % d == 0)) (range_with_len 2 (p - 2))
 
 -- whether p makes a prime field: a prime up to 61
 abbrev pub makes_prime_field : ℕ → Bool

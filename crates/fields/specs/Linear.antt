@@ -4,6 +4,7 @@ use Rattle.std.proofs.Common.{sym, ap, ap₂, ◌∙◌, inl, inr, add-zero, mul
 use Rattle.std.specs.Int.Bits.{bit_xor, xor_assoc, xor_self, xor_zero_r, xor_shifted}
 use Rattle.std.proofs.Math.Pow.{split}
 use Rattle.fields.specs.Polynomials.{bit, product, remainder, reduced_product}
+use Rattle.std.proofs.lemmas.Bool.{cases_eq}
 use Rattle.std.proofs.lemmas.Nat.{mod_below, div_below, xor_comm, xor_block, xor_shr, xor_mod}
 
 -- a function that passes through exclusive or
@@ -13,15 +14,11 @@ Linear f = (x y : ℕ) → f (bit_xor x y) ≡ bit_xor (f x) (f y)
 -- four terms of an exclusive or, the inner two exchanged
 pub xor_medial : (a b c d : ℕ) → bit_xor (bit_xor a b) (bit_xor c d) ≡ bit_xor (bit_xor a c) (bit_xor b d)
 xor_medial a b c d =
-    xor_assoc a b (bit_xor c d)
-    ∙ ap (bit_xor a) (sym (xor_assoc b c d) ∙ ap (λ (x : ℕ). bit_xor x d) (xor_comm b c) ∙ xor_assoc c b d)
-    ∙ sym (xor_assoc a c (bit_xor b d))
+    simp xor_assoc (ap (bit_xor a) (sym (xor_assoc b c d) ∙ ap (λ (x : ℕ). bit_xor x d) (xor_comm b c) ∙ xor_assoc c b d))
 
 -- a number below 2 is 0 or 1
 pub below_two : (c : ℕ) → c < 2 → (c ≡ 0) ⊎ (c ≡ 1)
-below_two zero h = inl refl
-below_two (suc zero) h = inr refl
-below_two (suc (suc c)) h = absurd (omega arith)
+below_two c h = elim (cases_eq c 0) [ inl none ↦ inl none | inr some ↦ inr (omega arith) ]
 
 -- a coefficient is 0 or 1
 pub bit_cases : (a i : ℕ) → (bit a i ≡ 0) ⊎ (bit a i ≡ 1)

@@ -1,6 +1,5 @@
 //! A field of either kind, for a choice that is made at run time.
-ghost use Rattle.std.specs.Prelude.{◌≡◌, Some, None, MatchResult};
-ghost use Rattle.fields.specs.Choices.{any_tables, choice_tables, choice_refusal};
+ghost use Rattle.fields.specs.Choices.{Chooses, any_tables};
 ghost use Rattle.fields.specs.declared.any.AnyField.TheVariants.{Prime, Binary};
 ghost use Rattle.fields.specs.BinarySteps.{admitted_laws};
 ghost use Rattle.fields.specs.PrimeLaws.{prime_laws};
@@ -26,11 +25,13 @@ pub enum AnyField {
     Binary(Binary),
 }
 
-impl AnyField {
-    /// The field that is meant. Where there is no such field, the choice is refused with 1 and its parameter.
-    pub fn new(choice: FieldChoice) -> Result<AnyField, Fault>
-        ensures { MatchResult result (λ f. (choice_refusal choice ≡ None) × (any_tables f ≡ choice_tables choice)) (λ e. choice_refusal choice ≡ Some e) }
-    {
+/// The field that is meant. Where there is no such field, the choice is refused with 1 and its parameter.
+impl TryFrom<FieldChoice> for AnyField {
+    type Error = Fault;
+
+    ghost try_from_gives = { Chooses };
+
+    fn try_from(choice: FieldChoice) -> Result<AnyField, Fault> {
         match choice {
             FieldChoice::Prime(p) => Ok(AnyField::Prime(Prime::new(p)?)),
             FieldChoice::Binary(m) => Ok(AnyField::Binary(Binary::new(m)?)),
@@ -38,6 +39,7 @@ impl AnyField {
     }
 }
 
+// Each call matches on the kind: the kinds are two and copied by value, and a dyn would have to be made and handed out.
 impl Field for AnyField {
     ghost tables = { any_tables };
 
@@ -71,13 +73,6 @@ impl Field for AnyField {
         match self {
             AnyField::Prime(f) => f.product(a, b),
             AnyField::Binary(f) => f.product(a, b),
-        }
-    }
-
-    fn inverse(&self, a: u32) -> Result<u32, Fault> {
-        match self {
-            AnyField::Prime(f) => f.inverse(a),
-            AnyField::Binary(f) => f.inverse(a),
         }
     }
 }

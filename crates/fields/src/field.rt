@@ -3,7 +3,8 @@ ghost use Rattle.std.specs.Prelude.{◌≡◌};
 ghost use Rattle.fields.specs.Lawful.{Tables, Lawful};
 ghost use Rattle.fields.specs.Answers.{table_answer, negative_answer, inverse_answer};
 
-use faults::Fault;
+use crate::elements::element;
+use faults::{Fault, Refusal};
 
 /// A finite field, whose elements are named by the indices below its order.
 ///
@@ -29,9 +30,16 @@ pub trait Field {
     fn product(&self, a: u32, b: u32) -> Result<u32, Fault>
         ensures { result ≡ table_answer (tables self.now).order (tables self.now).times a b };
 
-    /// The element whose product with `a` is 1; 0 has none.
+    /// The element whose product with `a` is 1; 0 has none. Where a field brings no quicker way, it is searched for.
     fn inverse(&self, a: u32) -> Result<u32, Fault>
-        ensures { result ≡ inverse_answer (tables self.now) a };
+        ensures { result ≡ inverse_answer (tables self.now) a }
+    {
+        let order = self.order();
+        element(order, a)?;
+        (1..order)
+            .find(|&b| self.product(a, b) == Ok(1))
+            .ok_or(Fault::new(Refusal::Element, a as u64))
+    }
 
     ghost lawful: { (f : Self) → Lawful (tables f) };
 }

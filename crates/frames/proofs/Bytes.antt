@@ -1,10 +1,12 @@
 -- Bytes and their bits. Assumes nothing.
-use Rattle.std.proofs.Common.{◌≡◌, ℕ, zero, suc, ◌+◌, ◌-◌, ◌*◌, ◌/◌, ◌%◌, ◌^◌, ◌<◌, ◌≤◌, Bool, true, false, cond, ◌&&◌, eqb, List, get_or, sym, refl, ap, ◌∙◌, ap₂, mod-lt, add_comm, div-one, arith, shr-shr}
+use Rattle.std.proofs.Common.{◌≡◌, ℕ, zero, suc, ◌+◌, ◌-◌, ◌*◌, ◌/◌, ◌%◌, ◌^◌, ◌<◌, ◌≤◌, Bool, true, false, cond, ◌&&◌, eqb, List, [], ◌∷◌, length, take, get_or, Fits, w8, sym, refl, ap, ◌∙◌, ap₂, mod-lt, add_comm, div-one, arith, shr-shr}
+use Rattle.std.specs.List.{zip}
+use Rattle.std.proofs.lemmas.List.Sums.{sum_by-cons}
 use lib.Bits.{bit_and, bit_or, bit_xor, xor_shr, xor_mod, xor_lt}
 use lib.Count.{ones, ones_step}
 use Rattle.std.proofs.lemmas.Bool.{and_parts, eqb-true}
 use Rattle.frames.specs.Counting.{count}
-use Rattle.frames.specs.Frames.{bit_set, with_bit, stands, differ, frame_distance}
+use Rattle.frames.specs.Frames.{bit_set, with_bit, stands, differ, frame_distance, bits_apart}
 use Rattle.frames.proofs.Counting.{count_full, count_le, count_split, count_same}
 
 -- the machine's way to set and to clear a bit of a byte
@@ -64,6 +66,10 @@ byte_distance x y (suc r) hx hy hr =
     ∙ sym (ap (λ e. ones (z / 2 ^ e)) next ∙ ones_step (z / 2 ^ (7 - r))
     ∙ ap (λ w. z / 2 ^ (7 - r) % 2 + ones w) (shr-shr z (7 - r) 1 ∙ ap (λ e. z / 2 ^ e) up))
 
+-- the slots of byte j
+pub slot_at : (frame : List ℕ) (j k : ℕ) → k < 8 → stands frame (8 * j + k) ≡ bit_set (get_or frame j 0) (7 - k)
+slot_at frame j k h = ap₂ (λ place turn. bit_set (get_or frame place 0) (7 - turn)) (omega arith) (omega arith)
+
 -- the first slots of one more byte are compared
 pub distance_more : (a b : List ℕ) (i r : ℕ) → get_or a i 0 < 256 → get_or b i 0 < 256 → r ≤ 8
     → frame_distance a b (8 * i + r) ≡ frame_distance a b (8 * i) + ones (bit_xor (get_or a i 0) (get_or b i 0) / 2 ^ (8 - r))
@@ -71,26 +77,37 @@ distance_more a b i r ha hb hr =
     count_split (λ s. differ (stands a s) (stands b s)) (8 * i) r
     ∙ ap (λ n. frame_distance a b (8 * i) + n)
     (count_same _ (λ t. differ (bit_set (get_or a i 0) (7 - t)) (bit_set (get_or b i 0) (7 - t))) r
-    (λ t h. ap₂ (λ place turn. differ (bit_set (get_or a place 0) (7 - turn)) (bit_set (get_or b place 0) (7 - turn))) (omega arith) (omega arith))
+    (λ t h. let within : t < 8 = omega arith in ap₂ differ (slot_at a i t within) (slot_at b i t within))
     ∙ byte_distance (get_or a i 0) (get_or b i 0) r ha hb hr)
-
--- a whole byte more is compared
-pub distance_more_byte : (a b : List ℕ) (i : ℕ) → get_or a i 0 < 256 → get_or b i 0 < 256
-    → frame_distance a b (8 * (i + 1)) ≡ frame_distance a b (8 * i) + ones (bit_xor (get_or a i 0) (get_or b i 0))
-distance_more_byte a b i ha hb =
-    ap (frame_distance a b) (let e : 8 * (i + 1) ≡ 8 * i + 8 = omega arith in e) ∙ distance_more a b i 8 ha hb (omega arith)
-    ∙ ap (λ z. frame_distance a b (8 * i) + ones z) (div-one (bit_xor (get_or a i 0) (get_or b i 0)))
 
 -- frames differ in no more slots than are compared
 pub distance_le : (a b : List ℕ) (slots : ℕ) → frame_distance a b slots ≤ slots
 distance_le a b slots = count_le (λ s. differ (stands a s) (stands b s)) slots
 
+-- the slots of a frame without its first byte
+stands_next : (x : ℕ) (frame : List ℕ) (s : ℕ) → stands (x ∷ frame) (8 + s) ≡ stands frame s
+stands_next x frame s = ap₂ (λ place turn. bit_set (get_or (x ∷ frame) place 0) (7 - turn)) (let e : (8 + s) / 8 ≡ suc (s / 8) = omega arith in e) (omega arith)
+
+-- the slots of whole bytes are compared by the bits of the bytes
+pub distance_whole : (a b : List ℕ) (i : ℕ) → ((k : ℕ) → Fits w8 (get_or a k 0)) → ((k : ℕ) → Fits w8 (get_or b k 0)) → i ≤ length a → i ≤ length b
+    → bits_apart (take i a) (take i b) ≡ frame_distance a b (8 * i)
+unfolding count
+distance_whole a b zero ha hb la lb = refl
+distance_whole [] b (suc i) ha hb la lb = absurd (omega arith)
+distance_whole (x ∷ a) [] (suc i) ha hb la lb = absurd (omega arith)
+distance_whole (x ∷ a) (y ∷ b) (suc i) ha hb la lb =
+    let bits = λ (bytes : ℕ × ℕ). ones (bit_xor bytes.0 bytes.1) in
+    let next : 8 * suc i ≡ 8 + 8 * i = omega arith in
+    let first : frame_distance (x ∷ a) (y ∷ b) 8 ≡ bits (x, y) = omega (arith, distance_more (x ∷ a) (y ∷ b) 0 8 (ha 0).fits (hb 0).fits (omega arith), ap ones (div-one (bit_xor x y))) in
+    let others = count_same (λ s. differ (stands (x ∷ a) (8 + s)) (stands (y ∷ b) (8 + s))) (λ s. differ (stands a s) (stands b s)) (8 * i)
+    (λ s h. ap₂ differ (stands_next x a s) (stands_next y b s)) in
+    sum_by-cons bits (x, y) (zip (take i a) (take i b))
+    ∙ ap₂ ◌+◌ (sym first) (distance_whole a b i (λ k. ha (suc k)) (λ k. hb (suc k)) (omega arith) (omega arith) ∙ sym others)
+    ∙ sym (count_split (λ s. differ (stands (x ∷ a) s) (stands (y ∷ b) s)) 8 (8 * i)) ∙ ap (frame_distance (x ∷ a) (y ∷ b)) (sym next)
+
 -- the slots of a last byte are compared
-pub distance_rest : (a b : List ℕ) (slots i sum : ℕ) → i ≡ slots / 8 → sum ≡ frame_distance a b (8 * i)
-    → get_or a (slots / 8) 0 < 256 → get_or b (slots / 8) 0 < 256
-    → sum + ones (bit_xor (get_or a (slots / 8) 0) (get_or b (slots / 8) 0) / 2 ^ (8 - slots % 8)) ≡ frame_distance a b slots
-distance_rest a b slots i sum e counted ha hb =
+pub distance_rest : (a b : List ℕ) (slots : ℕ) → get_or a (slots / 8) 0 < 256 → get_or b (slots / 8) 0 < 256
+    → frame_distance a b (8 * (slots / 8)) + ones (bit_xor (get_or a (slots / 8) 0) (get_or b (slots / 8) 0) / 2 ^ (8 - slots % 8)) ≡ frame_distance a b slots
+distance_rest a b slots ha hb =
     let whole : 8 * (slots / 8) + slots % 8 ≡ slots = omega arith in
-    let so_far : sum ≡ frame_distance a b (8 * (slots / 8)) = counted ∙ ap (λ k. frame_distance a b (8 * k)) e in
-    ap (λ n. n + ones (bit_xor (get_or a (slots / 8) 0) (get_or b (slots / 8) 0) / 2 ^ (8 - slots % 8))) so_far
-    ∙ sym (distance_more a b (slots / 8) (slots % 8) ha hb (omega arith)) ∙ ap (frame_distance a b) whole
+    sym (distance_more a b (slots / 8) (slots % 8) ha hb (omega arith)) ∙ ap (frame_distance a b) whole

@@ -21,12 +21,6 @@ unfolding total
 total_same f g zero h = refl
 total_same f g (suc n) h = omega (arith, total_same f g n (λ i b. h i (omega arith)), h n (omega arith))
 
--- the sum of the sum of two functions is the sum of their sums
-pub total_plus : (f g : ℕ → ℕ) (n : ℕ) → total (λ i. f i + g i) n ≡ total f n + total g n
-unfolding total
-total_plus f g zero = refl
-total_plus f g (suc n) = omega (arith, total_plus f g n)
-
 -- the sum of a constant
 pub total_constant : (c n : ℕ) → total (λ i. c) n ≡ n * c
 unfolding total
@@ -43,10 +37,10 @@ count_total f (suc n) = ap (λ m. m + cond (f n) 1 0) (count_total f n)
 abbrev one : Bool → ℕ
 one x = cond x 1 0
 
--- one number adds at most 1 to a count
-one_le : (x : Bool) → cond x 1 0 ≤ 1
-one_le true = omega arith
-one_le false = omega arith
+-- what a test counts for is at most what passing it counts for
+pub cond_le : (x : Bool) (worth : ℕ) → cond x worth 0 ≤ worth
+cond_le true worth = omega arith
+cond_le false worth = omega arith
 
 -- a number adds no more under a stronger test
 ones_le : (x y : Bool) → (x ≡ true → y ≡ true) → cond x 1 0 ≤ cond y 1 0
@@ -59,7 +53,7 @@ ones_le false false h = omega arith
 pub count_le : (f : ℕ → Bool) (n : ℕ) → count f n ≤ n
 unfolding count
 count_le f zero = omega arith
-count_le f (suc n) = omega (arith, count_le f n, one_le (f n))
+count_le f (suc n) = omega (arith, count_le f n, cond_le (f n) 1)
 
 -- a stronger test has a smaller count
 pub count_mono : (f g : ℕ → Bool) (n : ℕ) → ((i : ℕ) → i < n → f i ≡ true → g i ≡ true) → count f n ≤ count g n
@@ -81,13 +75,6 @@ unfolding count
 count_none f zero h = refl
 count_none f (suc n) h =
     omega (arith, count_none f n (λ i b. h i (omega arith)), ap one (h n (omega arith)))
-
--- a test that every number passes has its bound for a count
-pub count_every : (f : ℕ → Bool) (n : ℕ) → ((i : ℕ) → i < n → f i ≡ true) → count f n ≡ n
-unfolding count
-count_every f zero h = refl
-count_every f (suc n) h =
-    omega (arith, count_every f n (λ i b. h i (omega arith)), ap one (h n (omega arith)))
 
 -- a number that passes makes the count positive
 pub count_some : (f : ℕ → Bool) (n i : ℕ) → i < n → f i ≡ true → 0 < count f n
@@ -116,7 +103,7 @@ count_once f (suc n) h = go (f n) refl (count_once f n (λ i j b c. h i j (omega
     go : (x : Bool) → f n ≡ x → count f n ≤ 1 → count f n + cond (f n) 1 0 ≤ 1
     go true e r =
         let none = count_none f n (λ i b. elim (cases_Bool (f i)) [ inl t ↦ absurd (omega (arith, h i n (omega arith) (omega arith) t e)) | inr t ↦ t ]) in
-        omega (arith, one_le (f n))
+        omega (arith, cond_le (f n) 1)
     go false e r = omega (arith, ap one e)
 
 -- a test that one number alone passes has the count 1
@@ -170,7 +157,7 @@ unfolding count
 count_but_one f g zero place h = omega arith
 count_but_one f g (suc n) place h =
     elim (cases_eq n place) [
-      | inl e ↦ omega (arith, one_le (f n), count_mono f g n (λ i b. h i (omega arith) (λ s. omega arith)))
+      | inl e ↦ omega (arith, cond_le (f n) 1, count_mono f g n (λ i b. h i (omega arith) (λ s. omega arith)))
       | inr d ↦ omega (arith, ones_le (f n) (g n) (h n (omega arith) d), count_but_one f g n place (λ i b. h i (omega arith)))
     ]
 

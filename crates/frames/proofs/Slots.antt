@@ -1,5 +1,5 @@
 -- The slots of a frame: one written, and all made by a test. Assumes nothing.
-use Rattle.std.proofs.Common.{◌≡◌, ℕ, zero, suc, ◌+◌, ◌-◌, ◌*◌, ◌/◌, ◌%◌, ◌^◌, ◌<◌, ◌≤◌, Bool, true, false, cond, eqb, ltb, ◌⊎◌, List, length, get_or, Ok, Err, Result, sym, refl, ap, ◌∙◌, ap₂, inl, inr, add-zero, add_assoc, mod-lt, pow-suc, arith, pow_pos, pow-add, shr-shr, shr_lt}
+use Rattle.std.proofs.Common.{◌≡◌, ℕ, zero, suc, ◌+◌, ◌-◌, ◌*◌, ◌/◌, ◌%◌, ◌^◌, ◌<◌, ◌≤◌, Bool, true, false, cond, eqb, ltb, ◌⊎◌, List, length, get_or, Ok, Err, Result, sym, refl, ap, ◌∙◌, inl, inr, add-zero, add_assoc, mod-lt, pow-suc, arith, pow_pos, pow-add, shr-shr, shr_lt}
 use lib.Arith.{digits_lt}
 use lib.Pow.{high, low, field, mod-mod-pow}
 use Rattle.std.proofs.lemmas.Bool.{cases_eq, cases_lt, cond-true, cond-false, eqb-true, lt-ltb, le-ltb}
@@ -8,7 +8,8 @@ use Rattle.std.proofs.lemmas.List.FromFn.{length-map-range_with_len, get_or-map-
 use Rattle.faults.specs.declared.fault.Fault.{Fault}
 use Rattle.frames.specs.Counting.{count}
 use Rattle.frames.specs.Frames.{bit_set, stands, with_bit, with_slot, byte_of, framed, slot_answer}
-use Rattle.frames.proofs.Counting.{count_full}
+use Rattle.frames.proofs.Bytes.{slot_at}
+use Rattle.frames.proofs.Counting.{count_full, cond_le}
 
 -- numbers that agree from a bit on have that bit and every later one in common
 bits_above : (x y i j : ℕ) → x / 2 ^ i ≡ y / 2 ^ i → i ≤ j → bit_set x j ≡ bit_set y j
@@ -149,10 +150,6 @@ bit_of_byte test j k h =
     let r = byte_with_bits (λ i. test (8 * j + i)) 8 (omega arith) in
     ap (λ x. bit_set x (7 - k)) (sym (byte_from_bits test j r.0 r.1 r.2)) ∙ r.2 k h
 
--- the slots of byte j
-slot_at : (frame : List ℕ) (j k : ℕ) → k < 8 → stands frame (8 * j + k) ≡ bit_set (get_or frame j 0) (7 - k)
-slot_at frame j k h = ap₂ (λ place turn. bit_set (get_or frame place 0) (7 - turn)) (omega arith) (omega arith)
-
 -- the slots after a test has told the first so many
 abbrev told : (ℕ → Bool) → ℕ → List ℕ → ℕ → Bool
 told test slots old s = cond (ltb s slots) (test s) (stands old s)
@@ -193,24 +190,19 @@ framed_spare test slots old s l = elim (cases_lt s (8 * length old)) [
       (get_or_past (framed test slots old) (s / 8) 0 (omega (arith, length_framed test slots old)) ∙ sym (get_or_past old (s / 8) 0 (omega arith)))
 ]
 
--- one bit of a byte as a number
-bit_le : (b : Bool) (v : ℕ) → cond b v 0 ≤ v
-bit_le true v = omega arith
-bit_le false v = omega arith
-
 -- eight bits make a byte
 byte_of_below : (test : ℕ → Bool) (j : ℕ) → byte_of test j < 256
 byte_of_below test j =
     omega (
       arith,
-      bit_le (test (8 * j)) 128,
-      bit_le (test (8 * j + 1)) 64,
-      bit_le (test (8 * j + 2)) 32,
-      bit_le (test (8 * j + 3)) 16,
-      bit_le (test (8 * j + 4)) 8,
-      bit_le (test (8 * j + 5)) 4,
-      bit_le (test (8 * j + 6)) 2,
-      bit_le (test (8 * j + 7)) 1,
+      cond_le (test (8 * j)) 128,
+      cond_le (test (8 * j + 1)) 64,
+      cond_le (test (8 * j + 2)) 32,
+      cond_le (test (8 * j + 3)) 16,
+      cond_le (test (8 * j + 4)) 8,
+      cond_le (test (8 * j + 5)) 4,
+      cond_le (test (8 * j + 6)) 2,
+      cond_le (test (8 * j + 7)) 1,
     )
 
 -- a frame is made of bytes
@@ -254,6 +246,5 @@ framed_again test less slots old more within =
 -- a slot of the row is not refused
 pub slot_accepts : {A : Type 0} (slots s : ℕ) (a : A) (d : Fault) → s < slots → ◌≡◌ {A = Result A Fault} (Err d) (slot_answer slots s a) → ⊥
 slot_accepts {A} slots s a d within e =
-    let z : ◌≡◌ {A = Result A Fault} (Err d) (Ok a) = e ∙ cond-true (ltb s slots) _ _ (lt-ltb s slots within) in
-    let w : ◌≡◌ {A = ℕ} 0 1 = cc in
-    omega arith
+    let accepted : ◌≡◌ {A = Result A Fault} (Err d) (Ok a) = e ∙ cond-true (ltb s slots) _ _ (lt-ltb s slots within) in
+    cc

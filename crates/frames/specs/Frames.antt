@@ -1,6 +1,6 @@
 -- Packed frames: rows of slots carried in bytes. Assumes nothing.
-use Rattle.std.specs.Prelude.{ℕ, suc, ◌+◌, ◌-◌, ◌*◌, ◌/◌, ◌%◌, ◌^◌, Bool, true, false, cond, not, List, map, length, Ok, Err, Result, ◌==◌, nat_lt, slice_index, slice_set}
-use Rattle.std.specs.List.{range_with_len}
+use Rattle.std.specs.Prelude.{ℕ, suc, ◌+◌, ◌-◌, ◌*◌, ◌/◌, ◌%◌, ◌^◌, Bool, true, false, cond, not, List, map, length, Ok, Err, Result, ◌==◌, nat_lt, slice_index, slice_set, bit_xor, count_ones}
+use Rattle.std.specs.List.{range_with_len, sum_by, zip}
 use Rattle.faults.specs.Faults.{fault}
 use Rattle.faults.specs.declared.fault.Fault.{Fault}
 use Rattle.faults.specs.declared.refusal.Refusal.TheVariants.{Slot, Length}
@@ -48,6 +48,10 @@ differ false b = b
 -- the number of slots, of the first so many, in which two frames differ
 abbrev pub frame_distance : List ℕ → List ℕ → ℕ → ℕ
 frame_distance a b slots = count (λ s. differ (stands a s) (stands b s)) slots
+
+-- the number of bits in which the bytes of two rows differ, place by place
+abbrev pub bits_apart : List ℕ → List ℕ → ℕ
+bits_apart a b = sum_by (λ bytes. count_ones (bit_xor bytes.0 bytes.1)) (zip a b)
 
 -- an answer for a frame of exactly as many bytes as so many slots need, or refusal 5 with its length
 abbrev pub length_answer : {A : Type 0} → ℕ → List ℕ → Result A Fault → Result A Fault

@@ -3,10 +3,10 @@
 //! Slot s is bit 7 - (s mod 8) of byte s div 8. Spare bits of the last byte are neither read nor altered.
 #![tactic(auto)]
 
-ghost use Rattle.std.specs.Prelude.{◌≡◌, ◌*◌, ◌<◌, length, Ok};
-ghost use Rattle.frames.specs.Frames.{bit_set, stands, with_bit, with_slot, slot_answer, bytes_for, length_answer, frame_distance, distance_answer};
+ghost use Rattle.std.specs.Prelude.{◌≡◌, ◌-◌, ◌*◌, ◌/◌, ◌%◌, ◌^◌, ◌<◌, length, Ok};
+ghost use Rattle.frames.specs.Frames.{bit_set, stands, with_bit, with_slot, slot_answer, bits_apart, bytes_for, length_answer, frame_distance, distance_answer};
 
-use faults::{Fault, Refusal};
+use faults::{Fault, Refusal, refuse_unless};
 
 /// How many bytes so many slots need.
 pub fn bytes_for(slots: u32) -> u32
@@ -19,11 +19,8 @@ pub fn bytes_for(slots: u32) -> u32
 pub fn look(frame: &[u8], slot: u32) -> Result<bool, Fault>
     ensures { result ≡ slot_answer (8 * length frame.now) slot (stands frame.now slot) }
 {
-    let place = (slot / 8) as usize;
-    if place >= frame.len() {
-        return Err(Fault::new(Refusal::Slot, slot as u64));
-    }
-    Ok(bit_set(frame[place], 7 - slot % 8))
+    let (byte, bit) = place_of(slot, frame.len())?;
+    Ok(bit_set(frame[byte], bit))
 }
 
 /// Makes a slot stand or be clear, and alters no other bit. A slot past the last byte is refused with 7 and the slot.
@@ -31,28 +28,36 @@ pub fn put(frame: &mut [u8], slot: u32, standing: bool) -> Result<(), Fault>
     ensures answer { result ≡ slot_answer (8 * length frame.old) slot tt }
     ensures after { frame.new ≡ with_slot frame.old slot standing }
 {
-    let place = (slot / 8) as usize;
-    if place >= frame.len() {
-        return Err(Fault::new(Refusal::Slot, slot as u64));
-    }
-    frame[place] = with_bit(frame[place], 7 - slot % 8, standing);
+    let (byte, bit) = place_of(slot, frame.len())?;
+    frame[byte] = with_bit(frame[byte], bit, standing);
     Ok(())
 }
 
-/// Whether one bit of a byte is set.
-fn bit_set(byte: u8, i: u32) -> bool
-    requires { i < 8 }
-    ensures { result ≡ bit_set byte i }
+/// The byte of a slot and the slot's bit in it, in a frame of so many bytes. A slot past the last byte is refused with 7
+/// and the slot.
+fn place_of(slot: u32, bytes: usize) -> Result<(usize, u32), Fault>
+    ensures { result ≡ slot_answer (8 * bytes) slot (slot / 8, 7 - slot % 8) }
 {
-    byte >> i & 1 == 1
+    let byte = (slot / 8) as usize;
+    refuse_unless(byte < bytes, Refusal::Slot, slot as u64)?;
+    Ok((byte, 7 - slot % 8))
+}
+
+/// Whether one bit of a byte is set.
+fn bit_set(byte: u8, bit: u32) -> bool
+    requires { bit < 8 }
+    ensures { result ≡ bit_set byte bit }
+{
+    byte >> bit & 1 == 1
 }
 
 /// A byte with one bit set or cleared.
-fn with_bit(byte: u8, i: u32, standing: bool) -> u8
-    requires { i < 8 }
-    ensures { result ≡ with_bit byte i standing }
+#[tactic(auto, using(crate::proofs::Bytes::bit_raised, crate::proofs::Bytes::bit_cleared))]
+fn with_bit(byte: u8, bit: u32, standing: bool) -> u8
+    requires { bit < 8 }
+    ensures { result ≡ with_bit byte bit standing }
 {
-    let mask = 1 << i;
+    let mask = 1 << bit;
     if standing { byte | mask } else { byte & !mask }
 }
 
@@ -67,29 +72,36 @@ pub fn distance(a: &[u8], b: &[u8], slots: u32) -> Result<u32, Fault>
 }
 
 /// The number of slots, of the first so many, in which two frames differ: whole bytes first, then the slots of the last.
+#[tactic(auto, using(crate::proofs::Bytes::distance_whole, crate::proofs::Bytes::distance_rest, crate::proofs::Bytes::distance_le))]
 fn differing(a: &[u8], b: &[u8], slots: u32) -> u32
-    requires { (length a.now ≡ bytes_for slots) × (length b.now ≡ bytes_for slots) }
+    requires first { length a.now ≡ bytes_for slots }
+    requires second { length b.now ≡ bytes_for slots }
     ensures { result ≡ frame_distance a.now b.now slots }
 {
     let whole = (slots / 8) as usize;
-    let mut sum = 0;
-    for i in 0..whole {
-        sum += (a[i] ^ b[i]).count_ones();
-    }
+    let in_whole = bits_apart(&a[..whole], &b[..whole]);
     let rest = slots % 8;
-    if rest > 0 {
-        sum += ((a[whole] ^ b[whole]) >> (8 - rest)).count_ones();
+    if rest == 0 {
+        return in_whole;
     }
-    sum
+    in_whole + ((a[whole] ^ b[whole]) >> (8 - rest)).count_ones()
+}
+
+/// The number of bits in which the bytes of two rows differ, place by place.
+fn bits_apart(a: &[u8], b: &[u8]) -> u32
+    requires { bits_apart a.now b.now < 2 ^ 32 }
+    ensures { result ≡ bits_apart a.now b.now }
+{
+    a.iter().zip(b).map(|(x, y)| (x ^ y).count_ones()).sum()
 }
 
 /// Accepts a frame of exactly as many bytes as the slots need; any other is refused with 5 and its length.
 pub fn fits(frame: &[u8], slots: u32) -> Result<(), Fault>
     ensures { result ≡ length_answer slots frame.now (Ok tt) }
 {
-    if frame.len() == bytes_for(slots) as usize {
-        Ok(())
-    } else {
-        Err(Fault::new(Refusal::Length, frame.len() as u64))
-    }
+    refuse_unless(
+        frame.len() == bytes_for(slots) as usize,
+        Refusal::Length,
+        frame.len() as u64,
+    )
 }

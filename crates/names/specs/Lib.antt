@@ -1,3 +1,4 @@
 pub mod Extensions
+pub mod Keys
 pub mod Labels
 pub mod Names

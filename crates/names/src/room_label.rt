@@ -1,6 +1,6 @@
 //! Names that are labels of rooms.
 ghost use Rattle.std.specs.Prelude.{◌≡◌};
-ghost use Rattle.names.specs.Names.{folded, same_label};
+ghost use Rattle.names.specs.Names.{same_label};
 ghost use Rattle.names.specs.Labels.{labels_alike};
 
 use crate::name::Name;
@@ -34,21 +34,6 @@ impl Name for RoomLabel {
     ghost alike = { labels_alike (λ label. label.bytes) };
 
     fn is_same(&self, other: &RoomLabel) -> bool {
-        for place in 0..8 {
-            if fold(self.bytes[place]) != fold(other.bytes[place]) {
-                return false;
-            }
-        }
-        true
-    }
-}
-
-/// A letter A to Z as a to z, and every other byte as it is.
-fn fold(byte: u8) -> u8
-    ensures { result ≡ folded byte }
-{
-    match byte {
-        b'A'..=b'Z' => byte + 32,
-        _ => byte,
+        self.bytes.eq_ignore_ascii_case(&other.bytes)
     }
 }

@@ -1,18 +1,13 @@
 -- Trial division by every number from 2 to p - 1.
-use Rattle.std.proofs.Common.{◌+◌, inl, inr, arith}
-use Rattle.std.proofs.lemmas.Bool.{cases_eq}
-use Rattle.fields.specs.PrimeLaws.{divided, undivided}
+use Rattle.std.proofs.Common.{◌-◌, ◌%◌, not, eqb, refl, rules, tests}
+use Rattle.std.proofs.lemmas.Iterator.{YieldsList-from_range}
+use Rattle.std.proofs.lemmas.Iterator.Search.{all_from_yields_List}
+use Rattle.fields.specs.Kinds.{prime}
 use Rattle.fields.proofs.prime.is_prime.Goals as goal
 
-pub returns-then-p-d-eq0 : goal.returns-then-p-d-eq0
-returns-then-p-d-eq0 c = divided c.args.p c.loop-d.d (omega arith) c.loop-d-test.true c.if-p-d-eq0.true
-
-pub loop-d-preserved : goal.loop-d-preserved
-loop-d-preserved c = λ k h e.
-    elim (cases_eq (k + 2) c.loop-d.d) [
-      | inl same ↦ c.if-p-d-eq0.false (rw same at e)
-      | inr other ↦ c.loop-d.invariant k (omega arith) e
-    ]
-
-pub returns : goal.returns
-returns c = undivided c.args.p (λ k h e. c.loop-d.invariant k (omega arith) e)
+pub returns-then-p-ge2 : goal.returns-then-p-ge2
+unfolding prime
+returns-then-p-ge2 c =
+    let p = c.args.p in
+    let divided_by_none = all_from_yields_List (λ d. not (eqb (p % d) 0)) _ _ _ c.all.ensures.ran (YieldsList-from_range 2 p (p - 2) refl refl) (λ d b q k. search (rules, tests)) in
+    search (rules, tests)
