@@ -1,6 +1,7 @@
 -- Drawing a word into a frame, slot by slot. Assumes nothing.
-use Rattle.std.proofs.Common.{◌≡◌, ℕ, ◌+◌, ◌*◌, ◌<◌, ◌≤◌, Bool, eqb, List, length, sym, ap, ◌∙◌, ap₂, add-zero, add-mul, one-mul, arith}
+use Rattle.std.proofs.Common.{◌≡◌, ℕ, ◌+◌, ◌*◌, ◌<◌, ◌≤◌, Bool, eqb, List, length, Ok, Result, sym, ap, ◌∙◌, ap₂, add-zero, add-mul, one-mul, arith}
 use Rattle.std.proofs.lemmas.Nat.{mul-add-lt, div-mul-add, mod-mul-add, mul-le}
+use Rattle.faults.specs.declared.fault.Fault.{Fault}
 use Rattle.fields.specs.Lawful.{Tables}
 use Rattle.frames.specs.Frames.{bytes_for, with_slot, framed}
 use Rattle.frames.proofs.Slots.{framed_more, framed_again}
@@ -28,16 +29,17 @@ drawn_start test q place old before within e =
     e ∙ sym (framed_again test m m old (omega arith) within) ∙ ap (framed test m) (sym e) ∙ ap (λ k. framed test k before) (sym (add-zero m))
 
 -- one slot more of a place is drawn
-pub drawn_more : (f : Tables) (k number place q y v : ℕ) (old frame : List ℕ) → q ≡ f.order → v ≡ symbol f k number place → y < q
-    → place * q + y < 8 * length old → frame ≡ framed (in_word f k number) (place * f.order + y) old
-    → with_slot frame (place * q + y) (eqb v y) ≡ framed (in_word f k number) (place * f.order + (y + 1)) old
-drawn_more f k number place q y v old frame eq ev below within e =
-    let s = place * f.order + y in
-    let same : place * q + y ≡ s = ap (λ w. place * w + y) eq in
-    let told : eqb v y ≡ in_word f k number s = ap (λ w. eqb w y) ev ∙ sym (in_word_at f k number place y (omega arith)) in
-    let next : s + 1 ≡ place * f.order + (y + 1) = omega arith in
-    ap₂ (λ t b. with_slot frame t b) same told ∙ ap (λ x. with_slot x s (in_word f k number s)) e
-    ∙ framed_more (in_word f k number) s old (omega (arith, same)) ∙ ap (λ m. framed (in_word f k number) m old) next
+pub drawn_more : (f : Tables) (k number place q y v : ℕ) (old frame : List ℕ) → f.order ≡ q → ◌≡◌ {A = Result ℕ Fault} (Ok v) (Ok (symbol f k number place)) → y < q
+    → place * q + y < 8 * length old → frame ≡ framed (in_word f k number) (place * q + y) old
+    → with_slot frame (place * q + y) (eqb v y) ≡ framed (in_word f k number) (place * q + (y + 1)) old
+drawn_more f k number place q y v old frame order ev below within e =
+    let s = place * q + y in
+    let same : v ≡ symbol f k number place = cc in
+    let known : in_word f k number s ≡ eqb (symbol f k number place) y = ap (λ w. in_word f k number (place * w + y)) (sym order) ∙ in_word_at f k number place y (omega (arith, order)) in
+    let told : eqb v y ≡ in_word f k number s = ap (λ w. eqb w y) same ∙ sym known in
+    let next : s + 1 ≡ place * q + (y + 1) = omega arith in
+    ap (with_slot frame s) told ∙ ap (λ x. with_slot x s (in_word f k number s)) e
+    ∙ framed_more (in_word f k number) s old within ∙ ap (λ m. framed (in_word f k number) m old) next
 
 -- one place more is drawn
 pub drawn_place : (test : ℕ → Bool) (q place : ℕ) (old before frame : List ℕ) → place * q + q ≤ 8 * length old

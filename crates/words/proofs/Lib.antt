@@ -4,7 +4,6 @@ pub mod Drawing
 pub mod Evaluating
 pub mod Examples
 pub mod Limits
-pub mod RecordChecks
 pub mod RecordLaws
 pub mod Roots
 pub mod Shared

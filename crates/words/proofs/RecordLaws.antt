@@ -9,7 +9,7 @@ use Rattle.fields.specs.Choices.{choice_refusal, choice_tables}
 use Rattle.fields.specs.Kinds.{prime}
 use Rattle.fields.specs.declared.any.FieldChoice.{FieldChoice}
 use Rattle.fields.specs.declared.any.FieldChoice.TheVariants.{Prime, Binary}
-use Rattle.words.specs.Records.{Part, kind_part, parameter_part, n_part, k_part, d_part, e_part, names_part, zero_part, held, put_at, kind_number, parameter, names_number, record_bits, bytes_of, bits_of, record_bytes, record_of, record_refusal, reading_refusal, reading, WrittenRecordsReadBack, ReadRecordsWriteBack}
+use Rattle.words.specs.Records.{Part, kind_part, parameter_part, n_part, k_part, d_part, e_part, names_part, zero_part, held, put_at, kind_number, parameter, names_number, record_bits, bytes_of, bits_of, record_bytes, record_of, record_refusal, reading_refusal, reading, WrittenRecordsReadBack, ReadRecordsWriteBack, FitsItsParts}
 use Rattle.words.specs.declared.record.NameKind.{NameKind}
 use Rattle.words.specs.declared.record.NameKind.TheVariants.{Extensions, RoomLabels}
 use Rattle.words.specs.declared.record.PlanRecord.{PlanRecord}
@@ -30,16 +30,6 @@ pub record_limits :
 record_limits r accepted =
     let parts = passed_both _ _ accepted in
     (parts.0, limits _ _ _ _ _ (ap (λ (o : Option Fault). not (is_some o)) parts.1))
-
--- each number of a record lies below what its part can hold
-pub record FitsRecord (r : PlanRecord) : Type 0 where
-  pub kind : kind_number r.field < 2
-  pub parameter : parameter r.field < 64
-  pub n : r.n < 128
-  pub k : r.k < 8
-  pub d : r.d < 64
-  pub e : r.e < 32
-  pub names : names_number r.names < 2
 
 -- there are two kinds of field
 kind_fits : (choice : FieldChoice) → kind_number choice < 2
@@ -71,7 +61,7 @@ coefficients_few {q} {n} {k} {d} {e} l = elim (cases_lt k 8) [ inl few ↦ few |
         omega (arith, l.few_words, pow-le-pow_left wide 8, pow-le-pow_right positive many)
 
 -- where nothing refuses a record, its numbers fit their parts
-pub record_fits : (r : PlanRecord) → record_refusal r ≡ None → FitsRecord r
+pub record_fits : (r : PlanRecord) → record_refusal r ≡ None → FitsItsParts r
 record_fits r accepted =
     let parts = record_limits r accepted in
     let l = parts.1 in

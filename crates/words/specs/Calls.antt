@@ -16,10 +16,13 @@ order_check f p rest = check (f.order == p.q) (fault Field f.order) rest
 abbrev pub number_check : Plan → ℕ → Option Fault → Option Fault
 number_check p number rest = check (nat_lt number (p.q ^ p.k)) (fault Card number) rest
 
--- the checks of the symbol at a place: a place that the plan has not gives the first slot that it would have
+-- the checks of a number and a place: a place that the plan has not gives the first slot that it would have
+abbrev pub place_refusal : Plan → ℕ → ℕ → Option Fault
+place_refusal p number place = number_check p number (check (nat_lt place p.n) (fault Slot (place * p.q)) None)
+
+-- the checks of the symbol at a place
 abbrev pub symbol_refusal : Tables → Plan → ℕ → ℕ → Option Fault
-symbol_refusal f p number place =
-    order_check f p (number_check p number (check (nat_lt place p.n) (fault Slot (place * p.q)) None))
+symbol_refusal f p number place = order_check f p (place_refusal p number place)
 
 -- the checks of a slot's place and symbol
 abbrev pub slot_refusal : Tables → Plan → ℕ → Option Fault

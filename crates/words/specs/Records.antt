@@ -65,6 +65,16 @@ abbrev pub names_number : NameKind → ℕ
 names_number Extensions = 0
 names_number RoomLabels = 1
 
+-- each number of a record lies below what its part can hold
+pub record FitsItsParts (r : PlanRecord) : Type 0 where
+  pub kind : kind_number r.field < 2
+  pub parameter : parameter r.field < 64
+  pub n : r.n < 128
+  pub k : r.k < 8
+  pub d : r.d < 64
+  pub e : r.e < 32
+  pub names : names_number r.names < 2
+
 -- the 32 bits of a record
 abbrev pub record_bits : PlanRecord → ℕ
 record_bits r =
@@ -82,29 +92,42 @@ bits_of bytes = slice_index bytes 0 * 16777216 + slice_index bytes 1 * 65536 + s
 abbrev pub record_bytes : PlanRecord → List ℕ
 record_bytes r = bytes_of (record_bits r)
 
+-- the field that a kind and a parameter mean: the kind is 0 or 1 where it is accepted
+abbrev pub field_of : ℕ → ℕ → FieldChoice
+field_of kind parameter = cond (kind == 0) (Prime parameter) (Binary parameter)
+
+-- the kind of names that a bit means
+abbrev pub names_of : ℕ → NameKind
+names_of bit = cond (bit == 0) Extensions RoomLabels
+
 -- the record that 32 bits hold
 abbrev pub record_of : ℕ → PlanRecord
 record_of bits =
     record {
-      field = cond (held kind_part bits == 0) (Prime (held parameter_part bits)) (Binary (held parameter_part bits));
+      field = field_of (held kind_part bits) (held parameter_part bits);
       n = held n_part bits;
       k = held k_part bits;
       d = held d_part bits;
       e = held e_part bits;
-      names = cond (held names_part bits == 0) Extensions RoomLabels;
+      names = names_of (held names_part bits);
     }
 
 -- the checks of a record's numbers: those of its field, then those of its plan
 abbrev pub record_refusal : PlanRecord → Option Fault
 record_refusal r = then (choice_refusal r.field) (plan_refusal (choice_tables r.field).order r.n r.k r.d r.e)
 
+-- a zero bit is set
+abbrev pub zero_refusal : ℕ → ℕ → Option Fault → Option Fault
+zero_refusal bits place rest = check (held (zero_part place) bits == 0) (fault Spare place) rest
+
+-- a kind above 1 means no field
+abbrev pub kind_refusal : ℕ → ℕ → Option Fault → Option Fault
+kind_refusal kind parameter rest = check (nat_le kind 1) (fault Field parameter) rest
+
 -- the checks of 32 bits: the zero bits, the kind, and the record's numbers
 abbrev pub bits_refusal : ℕ → Option Fault
 bits_refusal bits =
-    check (held (zero_part 30) bits == 0) (fault Spare 30)
-    (check (held (zero_part 31) bits == 0) (fault Spare 31)
-    (check (nat_le (held kind_part bits) 1) (fault Field (held parameter_part bits))
-    (record_refusal (record_of bits))))
+    zero_refusal bits 30 (zero_refusal bits 31 (kind_refusal (held kind_part bits) (held parameter_part bits) (record_refusal (record_of bits))))
 
 -- the checks of reading: the length, then those of the bits
 abbrev pub reading_refusal : List ℕ → Option Fault

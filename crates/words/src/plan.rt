@@ -1,5 +1,6 @@
 //! A plan: the numbers that settle how cards speak on the wire.
-ghost use Rattle.std.specs.Prelude.{◌≡◌, ◌*◌, ◌^◌, ◌<◌, ◌≤◌, true, Some, None, MatchOption, MatchResult};
+ghost use Rattle.std.specs.Prelude.{◌≡◌, ◌*◌, ◌^◌, ◌<◌, ◌≤◌, true, Some, None, SomeIff, MatchResult};
+ghost use Rattle.faults.specs.Faults.{answer};
 ghost use Rattle.words.specs.Plans.{plan_refusal, plan_exists};
 
 use faults::{Fault, Refusal, refuse_unless};
@@ -21,6 +22,8 @@ pub struct Plan {
 }
 
 impl Plan {
+    ghost use Rattle.words.specs.Calls.{number_check};
+
     /// The plan with these numbers. The checks, in order: q (1, with q); n, then k, then d (2, with the value);
     /// q^k (3, with k); d(k-1)+2e (4, with that sum).
     pub fn new(q: u32, n: u32, k: u32, d: u32, e: u32) -> Result<Plan, Fault>
@@ -87,6 +90,13 @@ impl Plan {
         self.cards
     }
 
+    /// Accepts a number that has a word; any other is refused with 9 and the number.
+    pub fn has_word(&self, number: u32) -> Result<(), Fault>
+        ensures { result ≡ answer (number_check self.now number None) tt }
+    {
+        refuse_unless(number < self.cards(), Refusal::Card, number as u64)
+    }
+
     /// How many slots a line has: n times q.
     pub fn slots(&self) -> u32
         ensures { result ≡ self.now.n * self.now.q }
@@ -96,17 +106,9 @@ impl Plan {
     }
 }
 
-/// q to the power of k, where that is at most 65,536. It stops as soon as the power is larger.
+/// q to the power of k, where that is at most 65,536.
 fn power_within(q: u32, k: u32) -> Option<u32>
-    requires { (2 ≤ q) × (q ≤ 64) }
-    ensures { MatchOption result (65536 < q ^ k) (λ power. (power ≡ q ^ k) × (power ≤ 65536)) }
+    ensures { SomeIff result (q ^ k ≤ 65536) (q ^ k) }
 {
-    let mut power = 1;
-    for i in 0..k {
-        power *= q;
-        if power > 65536 {
-            return None;
-        }
-    }
-    Some(power)
+    q.checked_pow(k).filter(|power| *power <= 65536)
 }

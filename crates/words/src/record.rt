@@ -1,7 +1,7 @@
 //! The plan record: a plan, its field and its kind of names in four bytes.
 ghost use Rattle.std.specs.Prelude.{◌≡◌, ◌+◌, ◌-◌, ◌*◌, ◌/◌, ◌%◌, ◌^◌, ◌<◌, ◌≤◌, length, Some, None, MatchResult};
 ghost use Rattle.faults.specs.Faults.{answer};
-ghost use Rattle.words.specs.Records.{parameter, record_refusal, record_of, record_bits, bits_refusal, reading, writing_refusal, written, Meant};
+ghost use Rattle.words.specs.Records.{record_refusal, record_of, record_bits, zero_refusal, kind_refusal, field_of, names_of, bits_refusal, reading, writing_refusal, written, FitsItsParts, Meant};
 
 use crate::plan::Plan;
 use faults::{Fault, Refusal, refuse_unless};
@@ -40,20 +40,12 @@ const NAMES: Part = Part {
     width: 1,
 };
 
-const ZERO_30: Part = Part {
-    place: 30,
-    width: 1,
-};
-
-const ZERO_31: Part = Part {
-    place: 31,
-    width: 1,
-};
-
 impl Part {
     /// The value that the part holds in 32 bits.
     fn held(self, bits: u32) -> u32
-        requires { (self.place + self.width ≤ 32) × ((self.width ≤ 7) × (1 ≤ self.width)) }
+        requires within { self.place + self.width ≤ 32 }
+        requires some { 1 ≤ self.width }
+        requires narrow { self.width ≤ 7 }
         ensures { result ≡ bits / 2 ^ (32 - (self.place + self.width)) % 2 ^ self.width }
     {
         bits >> (32 - self.place - self.width) & ((1 << self.width) - 1)
@@ -61,7 +53,9 @@ impl Part {
 
     /// A value as bits at its part.
     fn put(self, value: u32) -> u32
-        requires { (self.place + self.width ≤ 32) × ((value < 2 ^ self.width) × (1 ≤ self.width)) }
+        requires within { self.place + self.width ≤ 32 }
+        requires some { 1 ≤ self.width }
+        requires fits { value < 2 ^ self.width }
         ensures { result ≡ value * 2 ^ (32 - (self.place + self.width)) }
     {
         value << (32 - self.place - self.width)
@@ -100,7 +94,7 @@ impl PlanRecord {
     pub fn field_and_plan(&self) -> Result<(AnyField, Plan), Fault>
         ensures { MatchResult result (λ v. Meant self.now v.0 v.1) (λ f. record_refusal self.now ≡ Some f) }
     {
-        let field = AnyField::new(self.field)?;
+        let field = AnyField::try_from(self.field)?;
         let plan = Plan::new(field.order(), self.n, self.k, self.d, self.e)?;
         Ok((field, plan))
     }
@@ -110,8 +104,10 @@ impl PlanRecord {
     pub fn read(bytes: &[u8]) -> Result<PlanRecord, Fault>
         ensures { result ≡ reading bytes.now }
     {
-        refuse_unless(bytes.len() == 4, Refusal::Length, bytes.len() as u64)?;
-        checked(u32::from_be_bytes([bytes[0], bytes[1], bytes[2], bytes[3]]))
+        let [a, b, c, d] = bytes else {
+            return Err(Fault::new(Refusal::Length, bytes.len() as u64));
+        };
+        checked(u32::from_be_bytes([*a, *b, *c, *d]))
     }
 
     /// Writes the record into four bytes. The checks, in order: the target's length (5, with it), the field (1, with the
@@ -128,7 +124,7 @@ impl PlanRecord {
 
     /// The 32 bits of a record whose numbers fit their parts.
     fn packed(&self) -> u32
-        requires { (parameter self.now.field < 64) × ((self.now.n < 128) × ((self.now.k < 8) × ((self.now.d < 64) × (self.now.e < 32)))) }
+        requires { FitsItsParts self.now }
         ensures { result ≡ record_bits self.now }
     {
         let (kind, parameter) = match self.field {
@@ -145,41 +141,53 @@ impl PlanRecord {
     }
 }
 
+// Kinds are numbers only here, since the format is the subject. Neither way is a conversion of its own: `TryFrom` would be a
+// second public way to read and say no more, and `From` cannot ask that the numbers fit.
+
 /// The record that 32 bits hold, after its checks.
 fn checked(bits: u32) -> Result<PlanRecord, Fault>
     ensures { result ≡ answer (bits_refusal bits) (record_of bits) }
 {
-    refuse_unless(ZERO_30.held(bits) == 0, Refusal::Spare, 30)?;
-    refuse_unless(ZERO_31.held(bits) == 0, Refusal::Spare, 31)?;
-    refuse_unless(
-        KIND.held(bits) <= 1,
-        Refusal::Field,
-        PARAMETER.held(bits) as u64,
-    )?;
-    let record = unpacked(bits);
-    record.field_and_plan()?;
-    Ok(record)
-}
-
-/// The record that 32 bits hold.
-fn unpacked(bits: u32) -> PlanRecord
-    ensures { result ≡ record_of bits }
-{
-    let parameter = PARAMETER.held(bits);
-    PlanRecord {
-        field: if KIND.held(bits) == 0 {
-            FieldChoice::Prime(parameter)
-        } else {
-            FieldChoice::Binary(parameter)
-        },
+    zero_at(bits, 30)?;
+    zero_at(bits, 31)?;
+    let record = PlanRecord {
+        field: field_of(KIND.held(bits), PARAMETER.held(bits))?,
         n: PLACES.held(bits),
         k: COEFFICIENTS.held(bits),
         d: TOGETHER.held(bits),
         e: WRONG.held(bits),
-        names: if NAMES.held(bits) == 0 {
-            NameKind::Extensions
-        } else {
-            NameKind::RoomLabels
-        },
+        names: names_of(NAMES.held(bits)),
+    };
+    record.field_and_plan()?;
+    Ok(record)
+}
+
+/// Accepts 32 bits that are 0 at a place; others are refused with 16 and the place.
+fn zero_at(bits: u32, place: u32) -> Result<(), Fault>
+    requires { place < 32 }
+    ensures { result ≡ answer (zero_refusal bits place None) tt }
+{
+    let bit = Part { place, width: 1 };
+    refuse_unless(bit.held(bits) == 0, Refusal::Spare, place as u64)
+}
+
+/// The field that a kind and a parameter mean. A kind above 1 is refused with 1 and the parameter.
+fn field_of(kind: u32, parameter: u32) -> Result<FieldChoice, Fault>
+    ensures { result ≡ answer (kind_refusal kind parameter None) (field_of kind parameter) }
+{
+    match kind {
+        0 => Ok(FieldChoice::Prime(parameter)),
+        1 => Ok(FieldChoice::Binary(parameter)),
+        _ => Err(Fault::new(Refusal::Field, parameter as u64)),
+    }
+}
+
+/// The kind of names that a bit means.
+fn names_of(bit: u32) -> NameKind
+    ensures { result ≡ names_of bit }
+{
+    match bit {
+        0 => NameKind::Extensions,
+        _ => NameKind::RoomLabels,
     }
 }

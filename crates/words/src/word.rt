@@ -1,14 +1,14 @@
 //! The words of cards: symbols, slots and packed frames.
-ghost use Rattle.std.specs.Prelude.{◌≡◌, ◌*◌, ◌/◌, ◌%◌, ◌<◌, length, None, Ok};
-ghost use Rattle.frames.specs.Frames.{bytes_for, framed};
-ghost use Rattle.words.specs.Calls.{order_check, symbol_refusal, slot_refusal, word_refusal, word_frame};
-ghost use Rattle.words.specs.Words.{symbol, slot_at, in_word};
+ghost use Rattle.std.specs.Prelude.{◌≡◌, ◌/◌, ◌%◌, None};
 ghost use Rattle.faults.specs.Faults.{answer};
+ghost use Rattle.words.specs.Calls.{order_check, symbol_refusal, slot_refusal, word_refusal, word_frame};
+ghost use Rattle.words.specs.Words.{symbol, slot_at};
 
+use crate::code::Code;
 use crate::plan::Plan;
 use faults::{Fault, Refusal, refuse_unless};
 use fields::Field;
-use frames::{fits, put};
+use frames::fits;
 
 /// Accepts a field of the plan's order; any other is refused with 1 and its order. Every call that works by a plan makes
 /// this check before all others.
@@ -19,35 +19,19 @@ pub fn same_order<F: Field>(field: &F, plan: &Plan) -> Result<(), Fault>
     refuse_unless(order == plan.q(), Refusal::Field, order as u64)
 }
 
-/// Accepts a place of a number's word: the checks of `symbol` and `slot`.
-fn addressed<F: Field>(field: &F, plan: &Plan, number: u32, place: u32) -> Result<(), Fault>
-    ensures { result ≡ answer (symbol_refusal (F.Field.tables field.now) plan.now number place) tt }
-{
-    same_order(field, plan)?;
-    refuse_unless(number < plan.cards(), Refusal::Card, number as u64)?;
-    refuse_unless(
-        place < plan.n(),
-        Refusal::Slot,
-        place as u64 * plan.q() as u64,
-    )
-}
-
 /// The symbol of a number's word at a place. The checks, in order: a field of another order (1, with that order), a
 /// number without a word (9, with the number), a place of n or more (7, with the first slot that it would have).
 pub fn symbol<F: Field>(field: &F, plan: &Plan, number: u32, place: u32) -> Result<u32, Fault>
     ensures { result ≡ answer (symbol_refusal (F.Field.tables field.now) plan.now number place) (symbol (F.Field.tables field.now) plan.now.k number place) }
 {
-    addressed(field, plan, number, place)?;
-    let k = plan.k();
-    value(field, k, number, place)
+    Code::new(field, plan)?.symbol(number, place)
 }
 
 /// The slot of a number's word at a place, after the checks of `symbol`.
 pub fn slot<F: Field>(field: &F, plan: &Plan, number: u32, place: u32) -> Result<u32, Fault>
     ensures { result ≡ answer (symbol_refusal (F.Field.tables field.now) plan.now number place) (slot_at (F.Field.tables field.now) plan.now.k number place) }
 {
-    let symbol = symbol(field, plan, number, place)?;
-    Ok(place * plan.q() + symbol)
+    Code::new(field, plan)?.slot(number, place)
 }
 
 /// The place and the symbol of a slot: quotient and remainder by q. The checks, in order: a field of another order (1,
@@ -72,41 +56,8 @@ pub fn write_word<F: Field>(
     ensures answer { result ≡ answer (word_refusal (F.Field.tables field.now) plan.now number frame.old) tt }
     ensures after { frame.new ≡ word_frame (F.Field.tables field.now) plan.now number frame.old }
 {
-    same_order(field, plan)?;
+    let code = Code::new(field, plan)?;
     fits(frame, plan.slots())?;
-    refuse_unless(number < plan.cards(), Refusal::Card, number as u64)?;
-    draw(field, plan, number, frame)
-}
-
-/// Draws a word into a frame of the right length, place by place.
-fn draw<F: Field>(field: &F, plan: &Plan, number: u32, frame: &mut [u8]) -> Result<(), Fault>
-    requires { ((F.Field.tables field.now).order ≡ plan.now.q) × (length frame.old ≡ bytes_for (plan.now.n * plan.now.q)) }
-    ensures answer { result ≡ Ok tt }
-    ensures after { frame.new ≡ framed (in_word (F.Field.tables field.now) plan.now.k number) (plan.now.n * plan.now.q) frame.old }
-{
-    let q = field.order();
-    for place in 0..plan.n() {
-        let symbol = value(field, plan.k(), number, place)?;
-        for y in 0..q {
-            put(frame, place * q + y, symbol == y)?;
-        }
-    }
-    Ok(())
-}
-
-/// The value at x of the polynomial whose k coefficients are the digits of a number, the lowest first.
-fn value<F: Field>(field: &F, k: u32, number: u32, x: u32) -> Result<u32, Fault>
-    requires { x < (F.Field.tables field.now).order }
-    ensures { result ≡ Ok (symbol (F.Field.tables field.now) k number x) }
-{
-    let q = field.order();
-    let mut rest = number;
-    let mut power = 1;
-    let mut sum = 0;
-    for j in 0..k {
-        sum = field.sum(sum, field.product(rest % q, power)?)?;
-        power = field.product(power, x)?;
-        rest /= q;
-    }
-    Ok(sum)
+    plan.has_word(number)?;
+    code.draw(number, frame)
 }

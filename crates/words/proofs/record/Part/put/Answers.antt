@@ -7,4 +7,4 @@ pub returns : goal.returns
 returns c =
     let self = c.args.self in
     let up : (32 - self.place) - self.width ≡ 32 - (self.place + self.width) = omega arith in
-    ap (λ e. (c.args.value * 2 ^ e) % 4294967296) up ∙ shl_whole c.args.value self.width (32 - (self.place + self.width)) 32 c.requires.1.0 (omega arith)
+    ap (λ e. (c.args.value * 2 ^ e) % 4294967296) up ∙ shl_whole c.args.value self.width (32 - (self.place + self.width)) 32 c.requires.fits (omega arith)
