@@ -1,106 +1,69 @@
--- Shared factors: how Euclid's algorithm finds them, and that without one the steps of a stride stay apart. Assumes nothing.
-use Rattle.std.proofs.Common.{◌≡◌, ℕ, zero, suc, ◌+◌, ◌-◌, ◌*◌, ◌/◌, ◌%◌, ◌<◌, ◌≤◌, Bool, true, false, not, ◌&&◌, eqb, ltb, sym, refl, ap, ◌∙◌, inl, inr, mod-lt, mod-eq_of_lt, mul_assoc, mul_comm, mul-le-mul_left, mul-zero, mul-one, mul-add, arith}
-use native.Mathlib.Nat.{mul-sub, mod_self, mod-add-div, mod-mod_of_dvd, dvd_of_mod-eq-zero, add-mul-mod_self_left, mul-mod_right, mul-mod_left, eq_of_mul-eq-mul_left}
-use Rattle.std.proofs.lemmas.Bool.{cases_eq, cases_Bool, cases_order, and_parts, and_from, and_left, and_right, ltb-true, eqb-true, lt-ltb, le-ltb, eq-eqb, ne_eqb}
+-- Shared factors: how the greatest common divisor tells of them, and that without one the steps of a stride stay apart. Assumes nothing.
+use Rattle.std.proofs.Common.{◌≡◌, ℕ, zero, suc, ◌+◌, ◌-◌, ◌*◌, ◌/◌, ◌%◌, ◌<◌, ◌≤◌, true, ◌&&◌, eqb, ltb, sym, ap, ◌∙◌, subst, inl, inr, mod-lt, mul_comm, mul_assoc, mul-add, arith}
+use Rattle.std.specs.Int.{IsGcd}
+use Prim.Native.Nat.{◌∣◌}
+use native.Mathlib.Nat.{dvd-mul_left, dvd-mul_right, dvd-mul_right_of_dvd, dvd-add_iff_right, dvd_of_mul-dvd-mul_right, pos_of_dvd_of_pos, mul-sub, mod-add-div, zero-mul, one-mul}
+use Rattle.std.proofs.lemmas.Nat.Gcd.{dvd_of_mod-eq-zero, mod-eq-zero_of_dvd, le_of_dvd}
+use Rattle.std.proofs.lemmas.Bool.{cases_eq, cases_Bool, cases_order, and_parts, and_from, ltb-true, eqb-true, lt-ltb, eq-eqb, ne_eqb}
 use Rattle.frames.proofs.Counting.{count_some, count_none}
 use Rattle.lines.specs.Stride.{divides_both, shared_factors}
 
--- what a common divisor is
-divisor_facts : (a n d : ℕ) → divides_both a n d ≡ true → (1 < d) × (a % d ≡ 0) × (n % d ≡ 0)
-divisor_facts a n d e =
+-- what a shared factor is
+factor_facts : (a n d : ℕ) → divides_both a n d ≡ true → (1 < d) × (d ∣ a) × (d ∣ n)
+factor_facts a n d e =
     let p = and_parts (ltb 1 d) (eqb (a % d) 0 && eqb (n % d) 0) e in
     let q = and_parts (eqb (a % d) 0) (eqb (n % d) 0) p.1 in
-    (ltb-true 1 d p.0, eqb-true (a % d) 0 q.0, eqb-true (n % d) 0 q.1)
+    (ltb-true 1 d p.0, dvd_of_mod-eq-zero d (eqb-true (a % d) 0 q.0), dvd_of_mod-eq-zero d (eqb-true (n % d) 0 q.1))
 
-divisor_from : (a n d : ℕ) → 1 < d → a % d ≡ 0 → n % d ≡ 0 → divides_both a n d ≡ true
-divisor_from a n d above p q =
-    and_from (ltb 1 d) _ (lt-ltb 1 d above) (and_from (eqb (a % d) 0) (eqb (n % d) 0) (eq-eqb (a % d) 0 p) (eq-eqb (n % d) 0 q))
+-- a shared factor is counted
+factor_counted : (a n d : ℕ) → 0 < a → 1 < d → d ∣ a → d ∣ n → 0 < shared_factors a n
+factor_counted a n d positive above p q =
+    count_some (divides_both a n) (a + 1) d (omega (arith, le_of_dvd positive p))
+    (and_from (ltb 1 d) _ (lt-ltb 1 d above) (and_from _ _ (eq-eqb (a % d) 0 (mod-eq-zero_of_dvd d p)) (eq-eqb (n % d) 0 (mod-eq-zero_of_dvd d q))))
 
--- one step of Euclid's algorithm keeps the common divisors
-pub divisors_step : (x y d : ℕ) → divides_both y (x % y) d ≡ divides_both x y d
-divisors_step x y d = ap (λ b. ltb 1 d && b) (elim (cases_eq (y % d) 0) [
-  | inl zero_rest ↦ rw (mod-mod_of_dvd d x (dvd_of_mod-eq-zero d zero_rest)) (swap (eqb (y % d) 0) (eqb (x % d) 0))
-  | inr other ↦ and_left (eqb (y % d) 0) _ (ne_eqb (y % d) 0 other) ∙ sym (and_right (eqb (x % d) 0) (eqb (y % d) 0) (ne_eqb (y % d) 0 other))
-])
-  where
-    swap : (p q : Bool) → (p && q) ≡ (q && p)
-    swap true true = refl
-    swap true false = refl
-    swap false true = refl
-    swap false false = refl
-
--- a number that divides both is counted
-factor_counted : (a n d : ℕ) → 0 < a → divides_both a n d ≡ true → 0 < shared_factors a n
-factor_counted a n d positive e =
-    let f = divisor_facts a n d e in
-    let rest = mod-add-div a d in
-    elim (cases_eq (a / d) 0) [
-      | inl none ↦ absurd (omega (arith, rest, f.1, ap (λ q. d * q) none, mul-zero d))
-      | inr some ↦ count_some (divides_both a n) (a + 1) d (omega (arith, rest, f.1, mul-one d, mul-le-mul_left d (at_least some))) e
-    ]
-  where
-    at_least : {q : ℕ} → (q ≡ 0 → ⊥) → 1 ≤ q
-    at_least some = omega arith
-
--- where Euclid's algorithm ends, the last divisor tells whether a factor is shared
-pub euclid_ends : (a n x : ℕ) → 0 < a → 0 < x → ((d : ℕ) → divides_both x 0 d ≡ divides_both a n d) → ltb 1 x ≡ not (eqb (shared_factors a n) 0)
-euclid_ends a n x positive some same = elim (cases_order x 1) [
+-- two numbers share no factor where their greatest common divisor is 1
+pub alone_from_gcd : (a n g : ℕ) → 0 < a → IsGcd a n g → eqb g 1 ≡ eqb (shared_factors a n) 0
+alone_from_gcd a n g positive h = elim (cases_eq g 1) [
   | inl one ↦
-      let none : shared_factors a n ≡ 0 = count_none (divides_both a n) (a + 1) (λ d h. sym (same d) ∙ elim (cases_Bool (divides_both x 0 d)) [
-        | inl divides ↦ let f = divisor_facts x 0 d divides in absurd (omega (arith, f.0, f.1, mod-eq_of_lt {n = x} {m = d} (omega (arith, f.0))))
+      let none : shared_factors a n ≡ 0 = count_none (divides_both a n) (a + 1) (λ d k. elim (cases_Bool (divides_both a n d)) [
+        | inl divides ↦ let f = factor_facts a n d divides in absurd (omega (arith, f.0, le_of_dvd {n = g} (omega arith) (h.2 d f.1 f.2)))
         | inr clear ↦ clear
       ]) in
-      le-ltb 1 x (omega arith) ∙ sym (ap (λ k. not (eqb k 0)) none)
-  | inr other ↦ elim other [
-    | inl below ↦ absurd (omega arith)
-    | inr above ↦
-        let whole = divisor_from x 0 x above (mod_self x) (zero_mod x) in
-        let counted = factor_counted a n x positive (sym (same x) ∙ whole) in
-        lt-ltb 1 x above ∙ sym (ap not (ne_eqb (shared_factors a n) 0 (λ e. omega arith)))
-  ]
+      eq-eqb g 1 one ∙ sym (eq-eqb (shared_factors a n) 0 none)
+  | inr other ↦
+      let counted = factor_counted a n g positive (omega (arith, pos_of_dvd_of_pos h.0 positive)) h.0 h.1 in
+      ne_eqb g 1 other ∙ sym (ne_eqb (shared_factors a n) 0 (λ e. omega arith))
 ]
-  where
-    zero_mod : (d : ℕ) → 0 % d ≡ 0
-    zero_mod d = omega (arith, mod-add-div 0 d)
 
 -- where n divides a times k for a k below n, a and n share a factor
-factor_from : (fuel a n k : ℕ) → k ≤ fuel → 0 < k → k < n → a * k % n ≡ 0 → (d : ℕ) × (1 < d) × (a % d ≡ 0) × (n % d ≡ 0)
+factor_from : (fuel a n k : ℕ) → k ≤ fuel → 0 < k → k < n → n ∣ a * k → (d : ℕ) × (1 < d) × (d ∣ a) × (d ∣ n)
 factor_from zero a n k small some below whole = absurd (omega arith)
 factor_from (suc fuel) a n k small some below whole = elim (cases_eq (n % k) 0) [
   | inl none ↦
-      let split : n ≡ k * (n / k) = omega (arith, mod-add-div n k) in
-      let product : k * a ≡ k * ((n / k) * (a * k / n)) = mul_comm k a ∙ times_quotient ∙ ap (λ m. m * (a * k / n)) split ∙ mul_assoc k (n / k) (a * k / n) in
-      let factor : a ≡ (n / k) * (a * k / n) = eq_of_mul-eq-mul_left k some a _ product in
-      (n / k, above_one split, ap (λ m. m % (n / k)) factor ∙ mul-mod_right (n / k) (a * k / n), ap (λ m. m % (n / k)) split ∙ mul-mod_left k (n / k))
+      let split : n ≡ n / k * k = omega (arith, mod-add-div n k, mul_comm k (n / k)) in
+      let product : n / k * k ∣ a * k = subst (λ m. m ∣ a * k) split whole in
+      (n / k, above_one (n / k) split, dvd_of_mul-dvd-mul_right (n / k) some product, subst (λ m. n / k ∣ m) (sym split) (dvd-mul_right (n / k) k))
   | inr other ↦ factor_from fuel a n (n % k) (omega (arith, mod-lt n {m = k} some)) (omega arith) (omega (arith, mod-lt n {m = k} some)) rest_whole
 ]
   where
-    times_quotient : a * k ≡ n * (a * k / n)
-    times_quotient = omega (arith, mod-add-div (a * k) n)
+    above_one : (q : ℕ) → n ≡ q * k → 1 < q
+    above_one zero split = absurd (omega (arith, split, zero-mul k))
+    above_one (suc zero) split = absurd (omega (arith, split, one-mul k))
+    above_one (suc (suc q)) split = omega arith
 
-    zero_of : (q : ℕ) → q < 1 → q ≡ 0
-    zero_of q h = omega arith
-
-    above_one : n ≡ k * (n / k) → 1 < n / k
-    above_one split = elim (cases_order (n / k) 1) [
-      | inl one ↦ absurd (omega (arith, split, ap (λ q. k * q) one, mul-one k))
-      | inr other ↦ elim other [ inl low ↦ absurd (omega (arith, split, ap (λ q. k * q) (zero_of (n / k) low), mul-zero k)) | inr high ↦ high ]
-    ]
-
-    rest_whole : a * (n % k) % n ≡ 0
+    rest_whole : n ∣ a * (n % k)
     rest_whole =
-        sym (add-mul-mod_self_left (a * (n % k)) n ((a * k / n) * (n / k)))
-        ∙ ap (λ m. m % n) (ap (λ m. a * (n % k) + m) (sym (mul_assoc n (a * k / n) (n / k)) ∙ ap (λ m. m * (n / k)) (sym times_quotient) ∙ mul_assoc a k (n / k))
-        ∙ sym (mul-add a (n % k) (k * (n / k))) ∙ ap (λ m. a * m) (mod-add-div n k))
-        ∙ mul-mod_left a n
+        let parts : a * k * (n / k) + a * (n % k) ≡ a * n =
+        ap (λ m. m + a * (n % k)) (mul_assoc a k (n / k)) ∙ sym (mul-add a (k * (n / k)) (n % k)) ∙ ap (λ m. a * m) (omega (arith, mod-add-div n k)) in
+        (dvd-add_iff_right n (dvd-mul_right_of_dvd n whole (n / k))).1 (rw parts (dvd-mul_left n a))
 
 -- without a shared factor two slots of a line of n slots are never stepped to the same slot below
 apart_below : (a n i j : ℕ) → 0 < a → shared_factors a n ≡ 0 → i < j → j < n → a * i % n ≡ a * j % n → ⊥
 apart_below a n i j positive alone order within same =
     let gap : a * (j - i) ≡ n * (a * j / n - a * i / n) =
     mul-sub a j i ∙ difference (mod-add-div (a * j) n) (mod-add-div (a * i) n) ∙ sym (mul-sub n (a * j / n) (a * i / n)) in
-    let f = factor_from (j - i) a n (j - i) (omega arith) (omega arith) (omega arith) (ap (λ m. m % n) gap ∙ mul-mod_right n (a * j / n - a * i / n)) in
-    let counted = factor_counted a n f.0 positive (divisor_from a n f.0 f.1 f.2 f.3) in
+    let f = factor_from (j - i) a n (j - i) (omega arith) (omega arith) (omega arith) (rw gap (dvd-mul_right n (a * j / n - a * i / n))) in
+    let counted = factor_counted a n f.0 positive f.1 f.2 f.3 in
     omega arith
   where
     difference : a * j % n + n * (a * j / n) ≡ a * j → a * i % n + n * (a * i / n) ≡ a * i → a * j - a * i ≡ n * (a * j / n) - n * (a * i / n)

@@ -1,4 +1,3 @@
-pub mod Clearing
 pub mod Factors
 pub mod Inversion
 pub mod Joints

@@ -6,7 +6,7 @@ use Rattle.lines.specs.Lines.{Laws, reaching}
 use Rattle.lines.specs.declared.level.Level.{Level}
 
 -- the row of the first 4,096 levels at most: a slot stands when its level is above 0
-abbrev pub level_row : List ℕ → List Bool
+unfoldable pub level_row : List ℕ → List Bool
 level_row levels = map (nat_lt 0) (take 4096 levels)
 
 -- a level after its slot was driven, one more and 65,535 at most, or dropped, 0
@@ -29,6 +29,7 @@ pub record LevelKept (was is : Level) : Type 0 where
 
 -- the row has a slot for each level, and at most 4,096
 pub level_length : (levels : List ℕ) → length (level_row levels) ≡ min 4096 (length levels)
+unfolding level_row
 level_length levels = length-map (take 4096 levels) (nat_lt 0) ∙ length-take 4096 levels
 
 -- a level line keeps the laws

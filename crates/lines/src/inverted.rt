@@ -29,6 +29,7 @@ impl<L> Inverted<L> {
     }
 }
 
+#[tactic(auto, using(crate::proofs::Inversion::inverted_set))]
 impl<L: Line> Line for Inverted<L> {
     ghost row = { λ l. inverted_row (L.Line.row l.below) };
 
@@ -51,7 +52,6 @@ impl<L: Line> Line for Inverted<L> {
     }
 
     fn look(&self, slot: u32) -> Result<bool, Fault> {
-        let standing = self.below.look(slot)?;
-        Ok(!standing)
+        Ok(!self.below.look(slot)?)
     }
 }

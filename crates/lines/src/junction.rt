@@ -31,6 +31,7 @@ impl<L, N> Junction<L, N> {
     }
 }
 
+#[tactic(auto, using(crate::proofs::Joints::junction_steps))]
 impl<L: Line, N: Line> Line for Junction<L, N> {
     ghost row = { λ l. junction_row (L.Line.row l.first) (N.Line.row l.second) };
 
@@ -50,18 +51,18 @@ impl<L: Line, N: Line> Line for Junction<L, N> {
     }
 
     fn drive(&mut self, slot: u32) -> Result<(), Fault> {
-        within(<Junction<_, _> as Line>::slots(self), slot)?;
+        within((*self).slots(), slot)?;
         self.first.drive(slot)
     }
 
     fn drop(&mut self, slot: u32) -> Result<(), Fault> {
-        within(<Junction<_, _> as Line>::slots(self), slot)?;
+        within((*self).slots(), slot)?;
         self.first.drop(slot)?;
         self.second.drop(slot)
     }
 
     fn look(&self, slot: u32) -> Result<bool, Fault> {
-        within(<Junction<_, _> as Line>::slots(self), slot)?;
+        within(self.slots(), slot)?;
         Ok(self.first.look(slot)? || self.second.look(slot)?)
     }
 }

@@ -3,7 +3,7 @@ ghost use Rattle.std.specs.Prelude.{◌≡◌, ℕ, ◌≤◌, Bool, true, false
 ghost use Rattle.frames.specs.Frames.{slot_answer};
 ghost use Rattle.lines.specs.Lines.{Laws, lent_laws};
 
-use faults::{Fault, Refusal};
+use faults::{Fault, Refusal, refuse_unless};
 
 /// A row of slots, each standing or clear. The count of slots, 0 to 4,096, never changes.
 ///
@@ -24,6 +24,7 @@ pub trait Line {
     fn slots(&self) -> u32
         ensures { result ≡ length (row self.now) };
 
+    // A rule of the project names drive and drop, so no one call with a flag stands for both.
     /// Makes a slot stand, and touches no other. A slot past the row is refused with 7 and the slot.
     fn drive(&mut self, slot: u32) -> Result<(), Fault>
         ensures answer { result ≡ slot_answer (length (row self.old)) slot tt }
@@ -46,14 +47,11 @@ pub trait Line {
 }
 
 /// Accepts a slot of a row of so many slots; any other is refused with 7 and the slot.
+// It takes the count, not the line: the language refuses a method that hands its own type on to a function over its trait.
 pub(crate) fn within(slots: u32, slot: u32) -> Result<(), Fault>
     ensures { result ≡ slot_answer slots slot tt }
 {
-    if slot < slots {
-        Ok(())
-    } else {
-        Err(Fault::new(Refusal::Slot, slot as u64))
-    }
+    refuse_unless(slot < slots, Refusal::Slot, slot as u64)
 }
 
 impl<L: Line> Line for &mut L {

@@ -1,8 +1,7 @@
 //! Packed lines: rows of slots carried in supplied bytes.
 //!
 //! Slot s is bit 7 - (s mod 8) of byte s div 8. No other bit of the bytes is read or altered.
-ghost use Rattle.std.specs.Prelude.{◌≡◌, ◌≤◌, true, false, length, slice_set};
-ghost use Rattle.frames.specs.Frames.{slot_answer};
+ghost use Rattle.std.specs.Prelude.{◌≡◌};
 ghost use Rattle.lines.specs.Packed.{packed_after, packed_means, PackedKept, packed_laws};
 
 use crate::line::{Line, within};
@@ -12,6 +11,7 @@ use faults::Fault;
 #[derive(Drop)]
 pub struct Packed<'a> {
     bytes: &'a mut [u8],
+    // A rule of the project: a row has as many slots as told, and the bytes do not tell.
     told: u32,
 }
 
@@ -24,20 +24,9 @@ impl<'a> Packed<'a> {
     {
         Packed { bytes, told }
     }
-
-    /// Makes a slot stand or be clear. A slot past the row is refused with 7 and the slot.
-    fn put(&mut self, slot: u32, standing: bool) -> Result<(), Fault>
-        ensures answer { result ≡ slot_answer (length (packed_means self.old)) slot tt }
-        ensures after { packed_means self.new ≡ slice_set (packed_means self.old) slot standing }
-        ensures memory { self.new.bytes.now ≡ packed_after self.old.bytes.now self.old.told slot standing }
-        ensures rest { PackedKept self.old self.new }
-        ensures refused { length (packed_means self.old) ≤ slot → self.new ≡ self.old }
-    {
-        within(<Packed<'_> as Line>::slots(self), slot)?;
-        frames::put(self.bytes, slot, standing)
-    }
 }
 
+#[tactic(auto, using(crate::proofs::Packing::packed_steps))]
 impl<'a> Line for Packed<'a> {
     ghost row = { packed_means };
 
@@ -53,15 +42,18 @@ impl<'a> Line for Packed<'a> {
     }
 
     fn drive(&mut self, slot: u32) -> Result<(), Fault> {
-        self.put(slot, true)
+        within((*self).slots(), slot)?;
+        frames::put(self.bytes, slot, true)
     }
 
     fn drop(&mut self, slot: u32) -> Result<(), Fault> {
-        self.put(slot, false)
+        within((*self).slots(), slot)?;
+        frames::put(self.bytes, slot, false)
     }
 
+    #[tactic(auto, using(crate::proofs::Packing::packed_at))]
     fn look(&self, slot: u32) -> Result<bool, Fault> {
-        within(<Packed<'_> as Line>::slots(self), slot)?;
+        within(self.slots(), slot)?;
         frames::look(self.bytes, slot)
     }
 }

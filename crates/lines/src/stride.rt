@@ -1,7 +1,8 @@
 //! Stride lines: every slot of a line below, in steps.
-ghost use Rattle.std.specs.Prelude.{◌≡◌, ◌<◌, not, length, ◌==◌};
+ghost use Rattle.std.specs.Prelude.{◌≡◌, length};
+ghost use Rattle.std.specs.Int.{IsGcd};
 ghost use Rattle.frames.specs.Frames.{slot_answer};
-ghost use Rattle.lines.specs.Stride.{shared_factors, strides, stride_slots, stride_place, stride_row, StrideWrote, stride_laws};
+ghost use Rattle.lines.specs.Stride.{strides, stride_slots, stride_place, stride_row, StrideWrote, stride_laws};
 
 use crate::line::{Line, within};
 use faults::Fault;
@@ -11,6 +12,7 @@ use faults::Fault;
 pub struct Stride<L> {
     below: L,
     stride: u32,
+    // Without the count each call would look for the greatest common divisor again, which is no plainer.
     count: u32,
     ghost steps: { count ≡ stride_slots stride count },
 }
@@ -37,10 +39,11 @@ impl<L: Line> Stride<L> {
     }
 
     /// The slot below a slot. A slot past the row is refused with 7 and the slot.
+    #[tactic(auto, using(crate::proofs::Steps::product_small, crate::proofs::Steps::stride_length))]
     fn place(&self, slot: u32) -> Result<u32, Fault>
         ensures { result ≡ slot_answer (length (stride_row self.now.stride self.now.count (L.Line.row self.now.below))) slot (stride_place self.now.stride self.now.count slot) }
     {
-        within(<Stride<_> as Line>::slots(self), slot)?;
+        within(self.slots(), slot)?;
         let steps = self.stride * slot;
         Ok(steps % self.count)
     }
@@ -57,27 +60,25 @@ impl<L> Stride<L> {
 }
 
 /// Whether a stride steps through a line of so many slots.
+#[tactic(auto, using(crate::proofs::Factors::alone_from_gcd))]
 fn steps_through(stride: u32, slots: u32) -> bool
     ensures { result ≡ strides stride slots }
 {
-    stride > 0 && stride < 4096 && !share_factor(stride, slots)
+    stride > 0 && stride < 4096 && greatest_common_divisor(stride, slots) == 1
 }
 
-/// Whether a number above 1 divides both, by Euclid's algorithm.
-fn share_factor(a: u32, n: u32) -> bool
-    requires { 0 < a }
-    ensures { result ≡ not (shared_factors a n == 0) }
+/// The greatest number that divides both, by Euclid's algorithm.
+fn greatest_common_divisor(a: u32, n: u32) -> u32
+    ensures { IsGcd a n result }
 {
-    let mut divisor = a;
-    let mut rest = n;
-    while rest > 0 {
-        let next = divisor % rest;
-        divisor = rest;
-        rest = next;
+    if n == 0 {
+        a
+    } else {
+        greatest_common_divisor(n, a % n)
     }
-    divisor > 1
 }
 
+#[tactic(auto, using(crate::proofs::Steps::stride_steps))]
 impl<L: Line> Line for Stride<L> {
     ghost row = { λ l. stride_row l.stride l.count (L.Line.row l.below) };
 

@@ -18,6 +18,7 @@ pub fn packed_bytes(mut bytes: [u8; 2], driven: u32, dropped: u32) -> [u8; 2]
 }
 
 /// The caller's levels after a slot was driven and another dropped through a level line, which is gone.
+// Beside `packed_bytes`: one function for both would be handed how the line is made over the memory, and is no plainer.
 pub fn line_levels(mut levels: [u16; 3], driven: u32, dropped: u32) -> [u16; 3]
     ensures { result ≡ level_after (level_after levels driven true) dropped false }
 {

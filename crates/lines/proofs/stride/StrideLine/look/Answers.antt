@@ -1,10 +1,7 @@
-use Rattle.std.proofs.Common.{◌∙◌}
-use Rattle.lines.proofs.Steps.{stride_look}
+-- The slot below tells of the slot.
+use Rattle.std.proofs.Common.{arith}
+use Rattle.lines.proofs.Steps.{stride_length, stride_at}
 use Rattle.lines.proofs.stride.StrideLine.look.Goals as goal
 
 pub returns : goal.returns
-returns g c =
-    let line = c.args.self.now in
-    c.look.ensures
-    ∙ stride_look line.stride line.count (g.L.Line.row line.below) c.args.slot c.in_ok-place.place line.steps
-    c.in_ok-place.ensures
+returns g c = grind (arith, stride_length, stride_at)
