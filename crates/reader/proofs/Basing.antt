@@ -1,20 +1,15 @@
 -- Filling the table of bases: each entry is made of one before it. Assumes nothing.
-use Rattle.std.proofs.Common.{◌≡◌, ℕ, ◌+◌, ◌-◌, ◌*◌, ◌/◌, ◌%◌, ◌^◌, ◌<◌, List, length, get_or, replicate, sym, ap, ◌∙◌, ap₂, mod-lt, mod-eq_of_lt, add-mul, one-mul, arith}
+use Rattle.std.proofs.Common.{◌≡◌, ℕ, ◌+◌, ◌-◌, ◌*◌, ◌/◌, ◌%◌, ◌^◌, ◌<◌, List, length, get_or, replicate, sym, ap, ◌∙◌, ap₂, mod-lt, mod-eq_of_lt, one-mul, arith}
 use native.Mathlib.Nat.{div-eq_of_lt, div-lt_self}
-use Rattle.std.proofs.lemmas.Nat.{mul-le}
-use Rattle.std.proofs.lemmas.List.{length-replicate, get_or-replicate}
+use Rattle.std.proofs.lemmas.List.{get_or-replicate}
 use Rattle.fields.specs.Lawful.{Tables, Lawful}
 use Rattle.words.proofs.Limits.{Limits}
 use Rattle.words.specs.declared.plan.Plan.{Plan}
-use Rattle.reader.specs.Working.{Grid, Reached, base}
+use Rattle.reader.specs.Working.{Grid, BasedBelow, base}
 use Rattle.reader.specs.declared.pairs.Pair.{Pair}
 use Rattle.reader.proofs.BaseLaws.{base_below, base_zero, base_next}
-use Rattle.reader.proofs.Grids.{cell_few, grid_cell}
-use Rattle.reader.proofs.Planned.{planned_by, highs, rows_few_by}
-
--- the table of bases has 65,536 entries
-pub table_size : (before after : List ℕ) → length after ≡ length before → before ≡ replicate 65536 0 → length after ≡ 65536
-table_size before after kept zeros = kept ∙ (ap length zeros ∙ length-replicate {A = ℕ} 65536 0)
+use Rattle.reader.proofs.Grids.{cell_below, cell_few, grid_cell}
+use Rattle.reader.proofs.Planned.{planned_by, highs}
 
 -- the first row is of zeros
 pub bases_begin : (f : Tables) → Lawful f → {n k d e : ℕ} → Limits f.order n k d e → Grid (base f k) n (1 * n) (replicate 65536 0)
@@ -24,7 +19,7 @@ bases_begin f l {n} {k} lim d i h =
     ∙ sym (ap₂ (base f k) (div-eq_of_lt below) (mod-eq_of_lt below) ∙ base_zero f l k i (omega (arith, lim.n_high)))
 
 -- the base of some higher coefficients at a place, from an entry before it; none stands for an entry that is not there
-module _ (f : Tables) (l : Lawful f) (p : Plan) {pairs : List Pair} {bases : List ℕ} {high place : ℕ} (r : Reached f p pairs bases high place) (none : Pair) where
+module _ (f : Tables) (l : Lawful f) (p : Plan) {pairs : List Pair} {smaller : List ℕ} {high place : ℕ} (r : BasedBelow f p pairs smaller high place) (none : Pair) where
   lim : Limits f.order p.n p.k p.d p.e
   lim = planned_by f p r.order
 
@@ -35,31 +30,24 @@ module _ (f : Tables) (l : Lawful f) (p : Plan) {pairs : List Pair} {bases : Lis
   element = omega (arith, lim.n_high, r.place_within)
 
   abbrev upper : ℕ
-  upper = get_or bases (high / f.order * p.n + place) 0
+  upper = get_or smaller (high / f.order * p.n + place) 0
 
-  upper_before : high / f.order * p.n + place < high * p.n + place
-  upper_before =
-      omega (
-        arith,
-        mul-le (high / f.order + 1) p.n high p.n (omega (arith, div-lt_self {n = high} {k = f.order} (omega (arith, r.begun)) (omega (arith, lim.q_low)))) (omega arith),
-        add-mul (high / f.order) 1 p.n,
-        one-mul p.n,
-        lim.n_low,
-      )
+  upper_before : high / f.order * p.n + place < high * p.n
+  upper_before = cell_below p.n high (high / f.order) place (div-lt_self {n = high} {k = f.order} (omega (arith, r.begun)) (omega (arith, lim.q_low))) r.place_within
 
   -- the entry before is there
-  pub upper_within : high / f.order * p.n + place < length bases
-  upper_within = omega (arith, upper_before, rows_few_by f p r.order high place r.high_within r.place_within, r.bases_size)
+  pub upper_within : high / f.order * p.n + place < length smaller
+  upper_within = rw r.smaller_size upper_before
 
   upper_is : upper ≡ base f p.k (high / f.order) place
-  upper_is = grid_cell (base f p.k) p.n (high * p.n + place) (high / f.order) place bases 0 r.place_within upper_before r.filled
+  upper_is = grid_cell (base f p.k) p.n (high * p.n) (high / f.order) place smaller 0 r.place_within upper_before r.filled
 
   upper_below : upper < f.order
   upper_below = rw upper_is (base_below f l p.k (high / f.order) place element)
 
   -- so is its sum with the lowest digit
-  pub sum_within : high % f.order * f.order + upper < length pairs
-  sum_within = omega (arith, r.pairs_size, cell_few f.order (high % f.order) upper lim.q_high lowest_digit upper_below)
+  pub sum_within : high % f.order * f.order + upper < 4096
+  sum_within = cell_few f.order (high % f.order) upper lim.q_high lowest_digit upper_below
 
   abbrev sum : ℕ
   sum = (get_or pairs (high % f.order * f.order + upper) none).sum
@@ -71,8 +59,8 @@ module _ (f : Tables) (l : Lawful f) (p : Plan) {pairs : List Pair} {bases : Lis
   sum_below = rw sum_is (l.sums_stay_below (high % f.order) (base f p.k (high / f.order) place) lowest_digit (base_below f l p.k (high / f.order) place element))
 
   -- and the product of that with the place
-  pub product_within : place * f.order + sum < length pairs
-  product_within = omega (arith, r.pairs_size, cell_few f.order place sum lim.q_high element sum_below)
+  pub product_within : place * f.order + sum < 4096
+  product_within = cell_few f.order place sum lim.q_high element sum_below
 
   -- which is the base
   pub product_is : (get_or pairs (place * f.order + sum) none).product ≡ base f p.k high place

@@ -1,16 +1,12 @@
 -- Gathering into a list, in ascending order and as far as it has room, what is kept of the numbers passed. Assumes nothing.
-use Rattle.std.proofs.Common.{◌≡◌, ℕ, ◌+◌, ◌*◌, ◌<◌, ◌≤◌, Bool, true, false, cond, List, [], ◌∷◌, ◌++◌, map, length, get_or, take, set, filter, sym, ap, ◌∙◌, ap₂, inl, inr, arith}
+use Rattle.std.proofs.Common.{◌≡◌, ℕ, ◌+◌, ◌≤◌, Bool, true, false, cond, List, [], ◌∷◌, ◌++◌, map, length, take, filter, sym, ap, ◌∙◌, ap₂, inl, inr, arith}
 use Rattle.std.specs.List.{range_with_len}
-use Rattle.std.proofs.lemmas.Nat.{div-mul-add, mod-mul-add}
 use Rattle.std.proofs.lemmas.List.FromFn.{length-range_with_len, filter_of_map_range_with_len_more}
-use Rattle.std.proofs.lemmas.List.{append-nil, map-id, map_push, length-map, length_push, length-set, set_past, take_all, take-append-le, take_more_set}
+use Rattle.std.proofs.lemmas.List.{append-nil, map-id, map_push, length-map, length_push, length-take-le, take_all, take-append-le}
 use Rattle.std.proofs.lemmas.List.Sums.{count_by-le-length, length-filter}
 use Rattle.std.proofs.lemmas.Bool.{cases_lt, cond-true, cond-false}
-use Rattle.words.specs.declared.plan.Plan.{Plan}
-use Rattle.words.proofs.Addressing.{slots_few}
-use Rattle.reader.specs.Working.{standing, spot_of}
-use Rattle.reader.specs.declared.spots.Spot.{Spot}
-use Rattle.reader.proofs.Grids.{cell_below}
+use Rattle.reader.specs.Working.{spot_of}
+use Rattle.reader.specs.declared.spot.Spot.{Spot}
 
 -- what a test keeps of the numbers below m + 1
 pub kept_more : (test : ℕ → Bool) (m : ℕ) → filter test (range_with_len 0 (m + 1)) ≡ filter test (range_with_len 0 m) ++ cond (test m) (m ∷ []) []
@@ -23,85 +19,58 @@ kept_more test m =
 pub kept_few : (test : ℕ → Bool) (m : ℕ) → length (filter test (range_with_len 0 m)) ≤ m
 kept_few test m = omega (arith, length-filter test (range_with_len 0 m), count_by-le-length test (range_with_len 0 m), length-range_with_len 0 m)
 
--- a list begins with what f makes of those of the numbers below m that a test keeps, as far as it has room; a count tells
--- how many they are
-pub record Gathered {X : Type 0} (test : ℕ → Bool) (f : ℕ → X) (m count : ℕ) (xs : List X) : Type 0 where
+-- a number that is not kept changes nothing
+pub kept_no : (test : ℕ → Bool) (m : ℕ) → test m ≡ false → filter test (range_with_len 0 (m + 1)) ≡ filter test (range_with_len 0 m)
+kept_no test m out =
+    let kept = filter test (range_with_len 0 m) in
+    kept_more test m ∙ ap (λ more. kept ++ more) (cond-false (test m) (m ∷ []) [] out) ∙ append-nil kept
+
+-- a number that is kept comes last
+pub kept_yes : (test : ℕ → Bool) (m : ℕ) → test m ≡ true → filter test (range_with_len 0 (m + 1)) ≡ filter test (range_with_len 0 m) ++ m ∷ []
+kept_yes test m in' = kept_more test m ∙ ap (λ more. filter test (range_with_len 0 m) ++ more) (cond-true (test m) (m ∷ []) [] in')
+
+-- the first n of a list and one more are the first n of those of the list and it
+take_push : {X : Type 0} (n : ℕ) (xs : List X) (x : X) → take n (take n xs ++ x ∷ []) ≡ take n (xs ++ x ∷ [])
+take_push n xs x =
+    elim (cases_lt n (length xs)) [
+      | inl more ↦
+          let size = length-take-le n xs (omega arith) in
+          take-append-le n (take n xs) (x ∷ []) (omega arith) ∙ take_all n (take n xs) (omega arith) ∙ sym (take-append-le n xs (x ∷ []) (omega arith))
+      | inr few ↦ ap (λ ys. take n (ys ++ x ∷ [])) (take_all n xs few)
+    ]
+
+-- of the numbers below m that a test keeps, a count tells how many they are, and a list has the first 32
+pub record Gathered (test : ℕ → Bool) (m count : ℕ) (xs : List ℕ) : Type 0 where
   pub counted : count ≡ length (filter test (range_with_len 0 m))
-  pub front : take count xs ≡ take (length xs) (map f (filter test (range_with_len 0 m)))
+  pub listed : xs ≡ take 32 (filter test (range_with_len 0 m))
 
-module _ {X : Type 0} (test : ℕ → Bool) (f : ℕ → X) where
-  -- no number is passed
-  pub gathered_none : (m : ℕ) (xs : List X) → m ≡ 0 → Gathered test f m 0 xs
-  gathered_none m xs e =
-      let none : filter test (range_with_len 0 m) ≡ [] = ap (λ n. filter test (range_with_len 0 n)) e in
-      record { counted = sym (ap length none); front = sym (ap (λ ks. take (length xs) (map f ks)) none ∙ take_all (length xs) [] (omega arith)) }
+module _ {test : ℕ → Bool} {m count : ℕ} {xs : List ℕ} (g : Gathered test m count xs) where
+  -- no more are gathered than are passed
+  pub gathered_few : count ≤ m
+  gathered_few = omega (arith, g.counted, kept_few test m)
 
-  module _ (m count : ℕ) (xs : List X) (g : Gathered test f m count xs) where
-    -- the same numbers, counted otherwise
-    pub gathered_same : (n : ℕ) → m ≡ n → Gathered test f n count xs
-    gathered_same n e = rw (← e) g
+  -- a number that is not kept
+  pub gathered_no : (n : ℕ) → n ≡ m + 1 → test m ≡ false → Gathered test n count xs
+  gathered_no n e out =
+      let same = kept_no test m out in
+      rw e (record { counted = g.counted ∙ ap length (sym same); listed = g.listed ∙ ap (take 32) (sym same) })
 
-    -- no more are gathered than are passed
-    pub gathered_few : count ≤ m
-    gathered_few = omega (arith, g.counted, kept_few test m)
+  -- a number that is kept
+  pub gathered_yes : (n : ℕ) → n ≡ m + 1 → test m ≡ true → Gathered test n (count + 1) (take 32 (xs ++ m ∷ []))
+  gathered_yes n e in' =
+      let kept = filter test (range_with_len 0 m) in
+      let grown = kept_yes test m in' in
+      rw e (record {
+        counted = omega (arith, g.counted, ap length grown, length_push kept m);
+        listed = ap (λ ys. take 32 (ys ++ m ∷ [])) g.listed ∙ take_push 32 kept m ∙ ap (take 32) (sym grown);
+      })
 
-    -- where the list has room, it begins with all
-    pub gathered_all : m ≤ length xs → take count xs ≡ map f (filter test (range_with_len 0 m))
-    gathered_all room =
-        let kept = filter test (range_with_len 0 m) in
-        g.front ∙ take_all (length xs) (map f kept) (omega (arith, length-map kept f, kept_few test m))
+-- the spots of the slots that a test keeps: a slot that is kept comes last
+pub spots_yes : (test : ℕ → Bool) (q slot : ℕ) (spots : List Spot) (spot : Spot) → spots ≡ map (spot_of q) (filter test (range_with_len 0 slot)) → test slot ≡ true → spot ≡ spot_of q slot
+    → spots ++ spot ∷ [] ≡ map (spot_of q) (filter test (range_with_len 0 (slot + 1)))
+spots_yes test q slot spots spot before in' is =
+    ap₂ (λ xs x. xs ++ x ∷ []) before is ∙ sym (map_push (spot_of q) (filter test (range_with_len 0 slot)) slot) ∙ ap (map (spot_of q)) (sym (kept_yes test slot in'))
 
-    -- a number that is not kept
-    pub gathered_no : (n : ℕ) → n ≡ m + 1 → test m ≡ false → Gathered test f n count xs
-    gathered_no n e out =
-        let kept = filter test (range_with_len 0 m) in
-        let same : filter test (range_with_len 0 n) ≡ kept =
-        ap (λ i. filter test (range_with_len 0 i)) e ∙ kept_more test m ∙ ap (λ more. kept ++ more) (cond-false (test m) (m ∷ []) [] out) ∙ append-nil kept in
-        record { counted = g.counted ∙ ap length (sym same); front = g.front ∙ ap (λ ks. take (length xs) (map f ks)) (sym same) }
-
-    -- a number that is kept
-    pub gathered_yes : (n : ℕ) (y : X) → n ≡ m + 1 → test m ≡ true → y ≡ f m → Gathered test f n (count + 1) (set xs count y)
-    gathered_yes n y e in' is =
-        let kept = filter test (range_with_len 0 m) in
-        let grown : filter test (range_with_len 0 n) ≡ kept ++ m ∷ [] =
-        ap (λ i. filter test (range_with_len 0 i)) e ∙ kept_more test m ∙ ap (λ more. kept ++ more) (cond-true (test m) (m ∷ []) [] in') in
-        let made : map f (filter test (range_with_len 0 n)) ≡ map f kept ++ f m ∷ [] = ap (map f) grown ∙ map_push f kept m in
-        let long = length-map kept f in
-        let size = length-set xs count y in
-        record {
-          counted = omega (arith, g.counted, ap length grown, length_push kept m);
-          front = elim (cases_lt count (length xs)) [
-            | inl room ↦
-                take_more_set xs count y room
-                ∙ ap (λ ys. ys ++ y ∷ []) (g.front ∙ take_all (length xs) (map f kept) (omega (arith, g.counted)))
-                ∙ ap (λ z. map f kept ++ z ∷ []) is
-                ∙ sym (take_all (length (set xs count y)) (map f kept ++ f m ∷ []) (omega (arith, g.counted, length_push (map f kept) (f m))))
-                ∙ ap (take (length (set xs count y))) (sym made)
-            | inr full ↦
-                ap (take (count + 1)) (set_past xs count y full)
-                ∙ take_all (count + 1) xs (omega arith)
-                ∙ sym (take_all count xs full)
-                ∙ g.front
-                ∙ sym (take-append-le (length xs) (map f kept) (f m ∷ []) (omega (arith, g.counted)))
-                ∙ ap (λ i. take i (map f kept ++ f m ∷ [])) (sym size)
-                ∙ ap (take (length (set xs count y))) (sym made)
-          ];
-        }
-
--- a spot is that of the slot of its place and symbol
-pub spot_at : (q place symbol : ℕ) → symbol < q → ◌≡◌ {A = Spot} (record { place = place; symbol = symbol }) (spot_of q (place * q + symbol))
-spot_at q place symbol h = sym (ap₂ (λ a b. record { place = a; symbol = b }) (div-mul-add place q symbol h) (mod-mul-add place q symbol h))
-
--- the slots of a plan are few
-pub slot_few : (p : Plan) (place symbol : ℕ) → place < p.n → symbol < p.q → place * p.q + symbol < 4096
-slot_few p place symbol hp hs = omega (arith, cell_below p.q p.n place symbol hp hs, slots_few p)
-
--- a list with room for all slots of a plan begins with all spots that stand
-pub spots_all : (p : Plan) (row : List Bool) (place count : ℕ) (spots : List Spot) → length row ≡ p.n * p.q → place ≡ p.n → 4096 ≤ length spots
-    → Gathered (λ slot. get_or row slot false) (spot_of p.q) (place * p.q) count spots
-    → (count ≡ length (standing row)) × (take count spots ≡ map (spot_of p.q) (standing row))
-spots_all p row place count spots long all room g =
-    let size : place * p.q ≡ length row = ap (λ i. i * p.q) all ∙ sym long in
-    let test : ℕ → Bool = λ slot. get_or row slot false in
-    let whole = gathered_same test (spot_of p.q) (place * p.q) count spots g (length row) size in
-    (whole.counted, gathered_all test (spot_of p.q) (length row) count spots whole (omega (arith, slots_few p)))
+-- no more spots are listed than slots are passed
+pub spots_few : (test : ℕ → Bool) (q slot : ℕ) (spots : List Spot) → spots ≡ map (spot_of q) (filter test (range_with_len 0 slot)) → length spots ≤ slot
+spots_few test q slot spots e = omega (arith, ap length e, length-map (filter test (range_with_len 0 slot)) (spot_of q), kept_few test slot)

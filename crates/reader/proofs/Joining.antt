@@ -1,14 +1,14 @@
 -- Marking the words of numbers, and comparing the marks with a row. Assumes nothing.
-use Rattle.std.proofs.Common.{◌≡◌, ℕ, ◌+◌, ◌-◌, ◌*◌, ◌/◌, ◌%◌, ◌^◌, ◌<◌, Bool, true, false, cond, not, ◌&&◌, ◌||◌, ltb, ◌⊎◌, List, [], ◌∷◌, ◌++◌, length, get_or, take, set, replicate, Ok, Result, sym, refl, ap, ◌∙◌, ap₂, inl, inr, mod-lt, div-add-mod', add-one, arith}
-use mathlib.Core.Bool.{beq}
+use Rattle.std.proofs.Common.{◌≡◌, ℕ, suc, ◌+◌, ◌-◌, ◌*◌, ◌/◌, ◌%◌, ◌^◌, ◌<◌, ◌≤◌, Bool, true, false, cond, ◌&&◌, ◌||◌, ltb, ◌⊎◌, List, [], ◌∷◌, ◌++◌, length, get_or, take, set, replicate, count_by, sym, refl, ap, ◌∙◌, ap₂, inl, inr, mod-lt, div-add-mod', zero-add, arith}
+use Rattle.std.specs.List.{zip}
 use Rattle.std.proofs.lemmas.Nat.{div_below, div-mul-add}
-use Rattle.std.proofs.lemmas.List.{get_or-replicate, get_or-set_same, get_or-set_other, take_all, take_more, take_more_set}
-use Rattle.std.proofs.lemmas.Bool.{cond-true, cases_eq, cases_lt, lt-ltb, le-ltb, eq-eqb, ne_eqb, and_from, and_right, or_right}
-use Rattle.faults.specs.declared.fault.Fault.{Fault}
+use Rattle.std.proofs.lemmas.List.{get_or-replicate, get_or-set_same, get_or-set_other, take_more}
+use Rattle.std.proofs.lemmas.Bool.{cases_eq, cases_lt, lt-ltb, le-ltb, eq-eqb, ne_eqb, and_from, and_right, or_right}
+use Rattle.std.proofs.lemmas.List.Sums.{sum_by-cons}
 use Rattle.fields.specs.Lawful.{Tables, Lawful}
 use Rattle.frames.specs.Counting.{count}
-use Rattle.frames.specs.Frames.{differ, slot_answer}
-use Rattle.frames.proofs.Counting.{count_same}
+use Rattle.frames.specs.Frames.{differ}
+use Rattle.frames.proofs.Counting.{count_same, count_split}
 use Rattle.words.specs.Words.{symbol, in_word}
 use Rattle.words.specs.declared.plan.Plan.{Plan}
 use Rattle.words.proofs.Addressing.{symbol_below}
@@ -88,8 +88,8 @@ module _ (f : Tables) (l : Lawful f) (p : Plan) {pairs : List Pair} {bases : Lis
   element = omega (arith, lim.n_high)
 
   -- the base is within its table
-  pub base_within : number / f.order * p.n + place < length bases
-  base_within = omega (arith, t.bases_size, rows_few_by f p t.order (number / f.order) place high_within hp)
+  pub base_within : number / f.order * p.n + place < 65536
+  base_within = rows_few_by f p t.order (number / f.order) place high_within hp
 
   abbrev found : ℕ
   found = get_or bases (number / f.order * p.n + place) 0
@@ -101,8 +101,8 @@ module _ (f : Tables) (l : Lawful f) (p : Plan) {pairs : List Pair} {bases : Lis
   found_below = rw found_is (base_below f l p.k (number / f.order) place element)
 
   -- and so is the sum
-  pub symbol_within : found * f.order + number % f.order < length pairs
-  symbol_within = omega (arith, t.pairs_size, cell_few f.order found (number % f.order) lim.q_high found_below lowest_digit)
+  pub symbol_within : found * f.order + number % f.order < 4096
+  symbol_within = cell_few f.order found (number % f.order) lim.q_high found_below lowest_digit
 
   abbrev told : ℕ
   told = (get_or pairs (found * f.order + number % f.order) none).sum
@@ -121,12 +121,6 @@ module _ (f : Tables) (l : Lawful f) (p : Plan) {pairs : List Pair} {bases : Lis
   -- and the slot is one of the marks
   pub slot_few : place * f.order + told < 4096
   slot_few = cell_few f.order place told lim.q_high element told_below
-
-  -- a place more is marked
-  pub marked_more : (old marks : List Bool) → length marks ≡ 4096
-      → ((slot : ℕ) → slot < p.n * f.order → get_or marks slot false ≡ (get_or old slot false || (ltb (slot / f.order) place && in_word f p.k number slot)))
-      → (slot : ℕ) → slot < p.n * f.order → get_or (set marks (place * f.order + told) true) slot false ≡ (get_or old slot false || (ltb (slot / f.order) (place + 1) && in_word f p.k number slot))
-  marked_more old marks size = word_more f p.n p.k number place told old marks told_is told_below (omega (arith, size, slot_few))
 
 -- the places together mark the whole word
 pub marked_all : (q n : ℕ) (old marks : List Bool) (word : ℕ → Bool) → 0 < q
@@ -150,38 +144,30 @@ numbers_more f n k q xs i before after hi inv step slot hs =
     ∙ (ap (λ b. b || in_word f k (get_or xs i 0) slot) (inv slot hs)
     ∙ (sym (joined_more f k (take i xs) (get_or xs i 0) slot) ∙ ap (λ ys. joined f k ys slot) (sym (take_more xs i 0 hi))))
 
--- a slot more is taken down
-pub looked_more : (row copy : List Bool) (slot : ℕ) (v : Bool) → slot < length row → slot < length copy
-    → ◌≡◌ {A = Result Bool Fault} (Ok v) (slot_answer (length row) slot (get_or row slot false)) → take slot copy ≡ take slot row
-    → take (slot + 1) (set copy slot v) ≡ take (slot + 1) row
-looked_more row copy slot v hr hc e inv =
-    let told : ◌≡◌ {A = Result Bool Fault} (Ok v) (Ok (get_or row slot false)) = e ∙ cond-true (ltb slot (length row)) _ _ (lt-ltb slot (length row) hr) in
-    let is : v ≡ get_or row slot false = cc in
-    take_more_set copy slot v hc ∙ (ap₂ (λ a b. a ++ b ∷ []) inv is ∙ sym (take_more row slot false hr))
-
--- all slots are taken down
-pub looked_all : (row copy : List Bool) (slot : ℕ) → slot ≡ length row → take slot copy ≡ take slot row → take (length row) copy ≡ row
-looked_all row copy slot e inv = ap (λ n. take n copy) (sym e) ∙ (inv ∙ take_all slot row (omega arith))
-
--- a slot more is compared
-pub compared_more : (row marks : List Bool) (slot sum : ℕ) (b : Bool) → not (beq (get_or row slot false) (get_or marks slot false)) ≡ b
-    → sum ≡ count (λ s. differ (get_or row s false) (get_or marks s false)) slot
-    → sum + cond b 1 0 ≡ count (λ s. differ (get_or row s false) (get_or marks s false)) (slot + 1)
+-- as many pairs of two lists differ as slots of the first, where the second is as long at least
+pub differing_pairs : (row marks : List Bool) → length row ≤ length marks
+    → count_by (λ (slot : Bool × Bool). differ slot.0 slot.1) (zip row marks) ≡ count (λ s. differ (get_or row s false) (get_or marks s false)) (length row)
 unfolding count
-compared_more row marks slot sum b e inv =
-    rw add-one (ap₂ (λ x y. x + cond y 1 0) inv (sym e ∙ same (get_or row slot false) (get_or marks slot false)))
+differing_pairs [] marks h = refl
+differing_pairs (x ∷ xs) [] h = absurd (omega arith)
+differing_pairs (x ∷ xs) (y ∷ ys) h =
+    let test : ℕ → Bool = λ s. differ (get_or (x ∷ xs) s false) (get_or (y ∷ ys) s false) in
+    let first = sum_by-cons (λ (slot : Bool × Bool). cond (differ slot.0 slot.1) 1 0) (x, y) (zip xs ys) in
+    let rest = differing_pairs xs ys (omega arith) in
+    let split = count_split test 1 (length xs) in
+    let all : suc (length xs) ≡ 1 + length xs = omega arith in
+    let one : count test 1 ≡ cond (differ x y) 1 0 = zero-add (cond (differ x y) 1 0) in
+    let same = count_same (λ i. test (1 + i)) (λ i. differ (get_or xs i false) (get_or ys i false)) (length xs) (λ i _. ap₂ differ (next x xs i) (next y ys i)) in
+    first ∙ omega (arith, rest, split, same, one, ap (count test) all)
   where
-    same : (x y : Bool) → not (beq x y) ≡ differ x y
-    same true true = refl
-    same true false = refl
-    same false true = refl
-    same false false = refl
+    next : (z : Bool) (zs : List Bool) (i : ℕ) → get_or (z ∷ zs) (1 + i) false ≡ get_or zs i false
+    next z zs i = let after : 1 + i ≡ suc i = omega arith in ap (λ k. get_or (z ∷ zs) k false) after
 
 -- the marks compared with a row give the distance
-pub compared_all : (f : Tables) (n k : ℕ) (row marks : List Bool) (xs ys : List ℕ) → length row ≡ n * f.order → ys ≡ xs
-    → ((slot : ℕ) → slot < n * f.order → get_or marks slot false ≡ joined f k ys slot)
+pub compared_all : (f : Tables) (n k : ℕ) (row marks : List Bool) (xs : List ℕ) → length row ≡ n * f.order
+    → ((slot : ℕ) → slot < n * f.order → get_or marks slot false ≡ joined f k xs slot)
     → count (λ s. differ (get_or row s false) (get_or marks s false)) (length row) ≡ distance f n k row xs
-compared_all f n k row marks xs ys size same inv =
+compared_all f n k row marks xs size inv =
     ap (count (λ s. differ (get_or row s false) (get_or marks s false))) size
     ∙ count_same (λ s. differ (get_or row s false) (get_or marks s false)) (λ s. differ (get_or row s false) (joined f k xs s)) (n * f.order)
-    (λ s h. ap (differ (get_or row s false)) (inv s h ∙ ap (λ zs. joined f k zs s) same))
+    (λ s h. ap (differ (get_or row s false)) (inv s h))

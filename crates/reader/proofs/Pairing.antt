@@ -2,10 +2,10 @@
 use Rattle.std.proofs.Common.{◌≡◌, ℕ, ◌<◌, ltb, Ok, Result, ◌∙◌, arith}
 use Rattle.std.proofs.lemmas.Bool.{cond-true, lt-ltb}
 use Rattle.faults.specs.declared.fault.Fault.{Fault}
-use Rattle.fields.specs.Answers.{table_answer, negative_of, negative_answer}
+use Rattle.fields.specs.Answers.{negative_of, negative_answer}
 use Rattle.fields.specs.Lawful.{Tables, Lawful}
 use Rattle.reader.specs.declared.pairs.Pair.{Pair}
-use Rattle.fields.proofs.Answering.{partners, table_value}
+use Rattle.fields.proofs.Answering.{partners}
 
 -- what stands for an entry that is not there
 abbrev pub no_pair : Pair
@@ -23,14 +23,3 @@ pub negative_value : (f : Tables) (a v : ℕ) → a < f.order → ◌≡◌ {A =
 negative_value f a v ha e =
     let z : ◌≡◌ {A = Result ℕ Fault} (Ok v) (Ok (negative_of f a)) = e ∙ cond-true (ltb a f.order) _ _ (lt-ltb a f.order ha) in
     cc
-
--- an answered value of a table that stays below its bound
-pub table_below : (q : ℕ) (table : ℕ → ℕ → ℕ) (a b v : ℕ) → ((x y : ℕ) → x < q → y < q → table x y < q)
-    → ◌≡◌ {A = Result ℕ Fault} (Ok v) (table_answer q table a b) → v < q
-table_below q table a b v closed e =
-    let known = table_value q table a b v e in
-    omega (arith, known.2, closed a b known.0 known.1)
-
--- an accepted value is the one that was told
-pub ok_value : {X : Type 0} (v w : X) → ◌≡◌ {A = Result X Fault} (Ok v) (Ok w) → v ≡ w
-ok_value v w e = cc

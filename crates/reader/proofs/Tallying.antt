@@ -1,7 +1,7 @@
 -- Tallying the votes of spots, each for the lowest coefficient whose word goes through it. Assumes nothing.
 use Rattle.std.proofs.Common.{◌≡◌, ℕ, ◌+◌, ◌-◌, ◌*◌, ◌^◌, ◌<◌, ◌≤◌, eqb, List, length, get_or, take, set, replicate, sym, ap, ◌∙◌, ap₂, inl, inr, arith}
 use Rattle.std.proofs.ByRecursion.{All-get_or}
-use Rattle.std.proofs.lemmas.List.{get_or-replicate, get_or-set_same, get_or-set_other, length-replicate, length-set, length-take-le, take_all}
+use Rattle.std.proofs.lemmas.List.{get_or-replicate, get_or-set_same, get_or-set_other, length-replicate, length-set, length-take-le}
 use Rattle.std.proofs.lemmas.List.Sums.{count_by-le-length, count_by_more_yes, count_by_more_no}
 use Rattle.std.proofs.lemmas.Bool.{cases_eq, eq-eqb, ne_eqb}
 use Rattle.fields.specs.Answers.{negative_of}
@@ -9,7 +9,7 @@ use Rattle.fields.specs.Lawful.{Tables, Lawful}
 use Rattle.words.specs.declared.plan.Plan.{Plan}
 use Rattle.reader.specs.Working.{base, spot_votes, Within, Tabled}
 use Rattle.reader.specs.declared.pairs.Pair.{Pair}
-use Rattle.reader.specs.declared.spots.Spot.{Spot}
+use Rattle.reader.specs.declared.spot.Spot.{Spot}
 use Rattle.reader.proofs.BaseLaws.{base_below}
 use Rattle.reader.proofs.Grids.{cell_few}
 use Rattle.reader.proofs.Pairing.{negative_below}
@@ -35,11 +35,6 @@ pub record Tallied (f : Tables) (k high : ℕ) (spots : List Spot) (m : ℕ) (vo
 -- no spot has voted
 pub tallied_none : {f : Tables} {k high : ℕ} {spots : List Spot} → f.order ≤ 64 → Tallied f k high spots 0 (replicate 64 0)
 tallied_none small = record { sized = length-replicate {A = ℕ} 64 0; counted = λ c hc. get_or-replicate 64 c 0 0 (omega arith) }
-
--- all spots have voted
-pub tallied_all : {f : Tables} {k high : ℕ} {spots : List Spot} {m : ℕ} {votes : List ℕ} → Tallied f k high spots m votes → length spots ≤ m
-    → (c : ℕ) → c < f.order → get_or votes c 0 ≡ spot_votes f k high c spots
-tallied_all {f} {k} {high} {spots} {m} t all c hc = t.counted c hc ∙ ap (spot_votes f k high c) (take_all m spots all)
 
 module _ {f : Tables} {k high : ℕ} {spots : List Spot} {i : ℕ} (hi : i < length spots) {votes : List ℕ} (t : Tallied f k high spots i votes) {c : ℕ} (hc : c < f.order) where
   -- no more have voted than are passed

@@ -1,8 +1,8 @@
 -- How many of the slots that stand the words with one base go through. Assumes nothing.
-use Rattle.std.proofs.Common.{◌≡◌, ℕ, zero, suc, ◌+◌, ◌*◌, ◌/◌, ◌<◌, ◌≤◌, Bool, true, false, cond, ◌&&◌, eqb, leb, List, [], ◌∷◌, length, get_or, take, count_by, filter, sym, refl, ap, ◌∙◌, inl, inr, zero-add, add-one, arith}
+use Rattle.std.proofs.Common.{◌≡◌, ℕ, zero, suc, ◌+◌, ◌*◌, ◌/◌, ◌<◌, ◌≤◌, Bool, true, false, cond, ◌&&◌, eqb, leb, List, [], ◌∷◌, length, get_or, count_by, filter, sym, refl, ap, ◌∙◌, inl, inr, zero-add, add-one, arith}
 use Rattle.std.specs.List.{range_with_len}
 use Rattle.std.proofs.lemmas.Nat.{div_below}
-use Rattle.std.proofs.lemmas.List.Sums.{sum_by-append, sum_by_more, count_by-le-length}
+use Rattle.std.proofs.lemmas.List.Sums.{sum_by-append}
 use Rattle.std.proofs.lemmas.Bool.{cases_lt, le-leb, lt-leb}
 use Rattle.fields.specs.Lawful.{Tables, Lawful}
 use Rattle.fields.proofs.Algebra.{zero_is_an_element}
@@ -12,7 +12,7 @@ use Rattle.words.specs.Words.{slot_at, in_word}
 use Rattle.reader.specs.Distances.{clear_slots, covered}
 use Rattle.reader.specs.Working.{lowest, standing, votes}
 use Rattle.reader.proofs.BaseLaws.{through}
-use Rattle.reader.proofs.Gathering.{kept_more, kept_few}
+use Rattle.reader.proofs.Gathering.{kept_more}
 use Rattle.reader.proofs.Overlaps.{slots_by_places}
 use Rattle.reader.proofs.Sets.{kept_set}
 
@@ -68,19 +68,6 @@ module _ (f : Tables) (l : Lawful f) (n k high c : ℕ) (row : List Bool) (hn : 
         | inr few ↦ le-leb clear e few ∙ sym (le-leb n (found + e) (omega arith))
       ]
 
--- the votes of one slot more
-pub votes_more : (f : Tables) (k high c : ℕ) (slots : List ℕ) (i : ℕ) → i < length slots
-    → votes f k high c (take (i + 1) slots) ≡ votes f k high c (take i slots) + cond (eqb (lowest f k high (get_or slots i 0)) c) 1 0
-votes_more f k high c slots i h = sum_by_more (λ slot. cond (eqb (lowest f k high slot) c) 1 0) slots i 0 h
-
--- no more slots vote than there are
-pub votes_le : (f : Tables) (k high c : ℕ) (slots : List ℕ) → votes f k high c slots ≤ length slots
-votes_le f k high c slots = count_by-le-length (λ slot. eqb (lowest f k high slot) c) slots
-
 -- a slot that stands lies on the row
 pub standing_below : (row : List Bool) (i : ℕ) → i < length (standing row) → get_or (standing row) i 0 < length row
 standing_below row i h = (kept_set (λ slot. get_or row slot false) (length row)).below i h
-
--- no more slots stand than the row has
-pub standing_few : (row : List Bool) → length (standing row) ≤ length row
-standing_few row = kept_few (λ slot. get_or row slot false) (length row)

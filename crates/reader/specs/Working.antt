@@ -7,7 +7,7 @@ use Rattle.fields.specs.Lawful.{Tables}
 use Rattle.words.specs.Words.{digit, value}
 use Rattle.words.specs.declared.plan.Plan.{Plan}
 use Rattle.reader.specs.declared.pairs.Pair.{Pair}
-use Rattle.reader.specs.declared.spots.Spot.{Spot}
+use Rattle.reader.specs.declared.spot.Spot.{Spot}
 
 -- a list filled row by row as far as m: the entry of row a and column b stands at a × width + b
 abbrev pub Grid : {X : Type 0} → (ℕ → ℕ → X) → ℕ → ℕ → List X → Type 0
@@ -45,16 +45,16 @@ votes f k high c slots = count_by (λ slot. nat_eq (lowest f k high slot) c) slo
 abbrev pub Based : Tables → ℕ → ℕ → List ℕ → Type 0
 Based f n k bases = (high place : ℕ) → high < f.order ^ (k - 1) → place < n → (d : ℕ) → slice_index_or bases (high * n + place) d ≡ base f k high place
 
--- the table of bases is filled as far as a place of some higher coefficients
-pub record Reached (f : Tables) (p : Plan) (pairs : List Pair) (bases : List ℕ) (high place : ℕ) : Type 0 where
+-- the bases of all smaller higher coefficients are there, for a place of some higher coefficients
+pub record BasedBelow (f : Tables) (p : Plan) (pairs : List Pair) (smaller : List ℕ) (high place : ℕ) : Type 0 where
   pub order : f.order ≡ p.q
   pub paired : Paired f pairs
   pub pairs_size : length pairs ≡ 4096
-  pub bases_size : length bases ≡ 65536
   pub begun : 1 ≤ high
   pub high_within : high < f.order ^ (p.k - 1)
   pub place_within : place < p.n
-  pub filled : Grid (base f p.k) p.n (high * p.n + place) bases
+  pub smaller_size : length smaller ≡ high * p.n
+  pub filled : Grid (base f p.k) p.n (high * p.n) smaller
 
 -- spots of a row of n places and q symbols
 abbrev pub Within : ℕ → ℕ → List Spot → Type 0

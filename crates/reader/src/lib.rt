@@ -2,13 +2,14 @@
 #![tactic(auto)]
 
 mod bases;
-mod cover;
-mod distance;
+mod covered;
 pub mod laws;
 mod pairs;
 pub mod reading;
-mod spots;
+mod row;
+mod spot;
+mod tables;
 pub mod verdict;
 
-pub use reading::read;
+pub use reading::{has_slots, read, ready};
 pub use verdict::Verdict;

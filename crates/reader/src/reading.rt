@@ -1,21 +1,19 @@
 //! The reading of a line.
-ghost use Rattle.std.specs.Prelude.{◌≡◌, ◌*◌, ◌≤◌, length, IfOk, Ok};
+ghost use Rattle.std.specs.Prelude.{◌≡◌, ◌*◌, ◌≤◌, length, None, Some, Ok, IfOk, IfErr};
 ghost use Rattle.faults.specs.Faults.{answer};
-ghost use Rattle.reader.specs.Calls.{reading_refusal, list_after};
+ghost use Rattle.reader.specs.Calls.{line_check, reading_refusal, list_after};
 ghost use Rattle.reader.specs.Promises.{ReadByDistance};
 ghost use Rattle.reader.specs.Verdicts.{verdict, listed};
-ghost use Rattle.reader.specs.Working.{Tabled};
 
-use crate::bases::base_up;
-use crate::cover::find_covered;
-use crate::distance::distance_from;
-use crate::pairs::{Pair, pair_up};
-use crate::spots::look_over;
+use crate::bases::{BASES, base_up};
+use crate::pairs::{PAIRS, Pair, pair_up};
+use crate::row::{Row, look_over};
+use crate::tables::Tables;
 use crate::verdict::Verdict;
 use faults::{Fault, Refusal, refuse_unless};
 use fields::Field;
 use lines::Line;
-use words::{Plan, same_order};
+use words::{Code, Plan};
 
 /// Reads which cards spoke on a line, before anyone's name is asked.
 ///
@@ -36,69 +34,69 @@ pub fn read<F: Field, L: Line>(
     ensures list { list.new ≡ list_after (F.Field.tables field.now) plan.now (L.Line.row line.now) list.old }
     ensures promises { IfOk result (λ v. ReadByDistance (F.Field.tables field.now) plan.now.n plan.now.k plan.now.d plan.now.e (L.Line.row line.now) v list.new) }
 {
-    ready(field, plan, line, list)?;
-    decide(field, plan, line, list)
+    let code = checked(field, plan, line, list)?;
+    decide(code, line, list)
 }
 
 /// The checks of `read`.
-fn ready<F: Field, L: Line>(field: &F, plan: &Plan, line: &L, list: &[u32]) -> Result<(), Fault>
+pub fn ready<F: Field, L: Line>(field: &F, plan: &Plan, line: &L, list: &[u32]) -> Result<(), Fault>
     ensures { result ≡ answer (reading_refusal (F.Field.tables field.now) plan.now (L.Line.row line.now) list.now) tt }
 {
-    same_order(field, plan)?;
+    checked(field, plan, line, list)?;
+    Ok(())
+}
+
+/// The check that a line has the plan's n × q slots.
+pub fn has_slots<L: Line>(plan: &Plan, line: &L) -> Result<(), Fault>
+    ensures { result ≡ answer (line_check plan.now (L.Line.row line.now) None) tt }
+{
     let slots = line.slots();
-    refuse_unless(slots == plan.slots(), Refusal::Line, slots as u64)?;
+    refuse_unless(slots == plan.slots(), Refusal::Line, slots as u64)
+}
+
+/// The code of a field and a plan, after the checks of `read`.
+fn checked<'a, F: Field, L: Line>(
+    field: &'a F,
+    plan: &'a Plan,
+    line: &L,
+    list: &[u32],
+) -> Result<Code<'a, F>, Fault>
+    ensures field { IfOk result (λ code. code.field.now ≡ field.now) }
+    ensures plan { IfOk result (λ code. code.plan.now ≡ plan.now) }
+    ensures accepted { IfOk result (λ _. reading_refusal (F.Field.tables field.now) plan.now (L.Line.row line.now) list.now ≡ None) }
+    ensures refused { IfErr result (λ fault. reading_refusal (F.Field.tables field.now) plan.now (L.Line.row line.now) list.now ≡ Some fault) }
+{
+    let code = Code::new(field, plan)?;
+    has_slots(plan, line)?;
     let room = list.len();
-    refuse_unless(plan.d() as usize <= room, Refusal::Room, room as u64)
+    refuse_unless(plan.d() as usize <= room, Refusal::Room, room as u64)?;
+    Ok(code)
 }
 
 /// Reads a line of the plan's slots into a list that has room.
 fn decide<F: Field, L: Line>(
-    field: &F,
-    plan: &Plan,
+    code: Code<'_, F>,
     line: &L,
     list: &mut [u32],
 ) -> Result<Verdict, Fault>
-    requires { ((F.Field.tables field.now).order ≡ plan.now.q) × ((length (L.Line.row line.now) ≡ plan.now.n * plan.now.q) × (plan.now.d ≤ length list.old)) }
-    ensures answer { result ≡ Ok (verdict (F.Field.tables field.now) plan.now.n plan.now.k plan.now.d plan.now.e (L.Line.row line.now)) }
-    ensures list { list.new ≡ listed (F.Field.tables field.now) plan.now.n plan.now.k plan.now.d plan.now.e (L.Line.row line.now) list.old }
+    requires slots { length (L.Line.row line.now) ≡ code.plan.now.n * code.plan.now.q }
+    requires room { code.plan.now.d ≤ length list.old }
+    ensures answer { result ≡ Ok (verdict (F.Field.tables code.entry.field.now) code.entry.plan.now.n code.entry.plan.now.k code.entry.plan.now.d code.entry.plan.now.e (L.Line.row line.now)) }
+    ensures list { list.new ≡ listed (F.Field.tables code.entry.field.now) code.entry.plan.now.n code.entry.plan.now.k code.entry.plan.now.d code.entry.plan.now.e (L.Line.row line.now) list.old }
 {
-    let mut pairs = [Pair {
-        sum: 0,
-        product: 0,
-        difference: 0,
-    }; 4096];
-    pair_up(field, &mut pairs)?;
-    let mut bases = [0; 65536];
-    base_up(field, plan, &pairs, &mut bases);
-    let mut row = [false; 4096];
-    look_over(line, &mut row)?;
-    let row = &row[..plan.slots() as usize];
-    Ok(weigh(field, plan, &pairs, &bases, row, list))
-}
-
-/// The verdict on a row of the plan's slots; where it is a reading, the list then begins with it.
-fn weigh<F: Field>(
-    field: &F,
-    plan: &Plan,
-    pairs: &[Pair],
-    bases: &[u8],
-    row: &[bool],
-    list: &mut [u32],
-) -> Verdict
-    requires { (Tabled (F.Field.tables field.now) plan.now pairs.now bases.now) × ((length row.now ≡ plan.now.n * plan.now.q) × (plan.now.d ≤ length list.old)) }
-    ensures verdict { result ≡ verdict (F.Field.tables field.now) plan.now.n plan.now.k plan.now.d plan.now.e row.now }
-    ensures list { list.new ≡ listed (F.Field.tables field.now) plan.now.n plan.now.k plan.now.d plan.now.e row.now list.old }
-{
-    let mut found = [0; 32];
-    let count = find_covered(field, plan, pairs, bases, row, &mut found);
-    if count > plan.d() {
-        return Verdict::Overload(count);
-    }
-    let covered = &found[..count as usize];
-    let distance = distance_from(field, plan, pairs, bases, covered, row);
-    if distance > plan.e() {
-        return Verdict::Noise(distance);
-    }
-    list[..count as usize].copy_from_slice(covered);
-    Verdict::Reading(count)
+    let mut pairs = [Pair::default(); PAIRS];
+    pair_up(&code, &mut pairs)?;
+    let mut bases = [0; BASES];
+    base_up(&code, &pairs, &mut bases);
+    let tables = Tables {
+        code: &code,
+        pairs: &pairs,
+        bases: &bases,
+    };
+    let slots = look_over(line)?;
+    let row = Row {
+        tables: &tables,
+        slots: slots.as_slice(),
+    };
+    Ok(row.weigh(list))
 }

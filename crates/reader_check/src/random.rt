@@ -1,12 +1,12 @@
 //! A few hundred random lines over plans of both kinds of field and four kinds of line.
-use crate::plain::read_plainly;
+use crate::plain::PlainReader;
 use faults::Fault;
 use fields::{Binary, Field, Prime};
 use lines::{Inverted, Junction, Line, Packed, Stride, drop_all};
 use reader::read;
 use std::process::Abort;
 use std::test::Fail;
-use words::{Plan, slot};
+use words::{Code, Plan};
 
 /// Numbers that follow one another without a plain rule.
 #[derive(Drop)]
@@ -26,62 +26,61 @@ impl Dice {
     }
 }
 
-/// Lets some cards speak on a clear line and turns some slots over.
-fn speak<F: Field, L: Line>(
-    field: &F,
-    plan: &Plan,
-    line: &mut L,
-    dice: &mut Dice,
-    cards: u32,
-    turned: u32,
-) -> Result<(), Fault> {
-    drop_all(line)?;
-    for i in 0..cards {
-        let number = dice.below(plan.cards());
-        for place in 0..plan.n() {
-            line.drive(slot(field, plan, number, place)?)?;
+/// A code by which random lines are read, and the dice that make them.
+#[derive(Drop)]
+struct Trial<'a, F: Field> {
+    code: Code<'a, F>,
+    dice: Dice,
+}
+
+impl<'a, F: Field> Trial<'a, F> {
+    /// Lets some cards speak on a clear line and turns some slots over.
+    fn speak<L: Line>(&mut self, line: &mut L, cards: u32, turned: u32) -> Result<(), Fault> {
+        let plan = self.code.plan;
+        drop_all(line)?;
+        for _ in 0..cards {
+            let number = self.dice.below(plan.cards());
+            for place in 0..plan.n() {
+                line.drive(self.code.slot(number, place)?)?;
+            }
         }
-    }
-    for i in 0..turned {
-        let slot = dice.below(plan.slots());
-        if (*line).look(slot)? {
-            line.drop(slot)?;
-        } else {
-            line.drive(slot)?;
+        for _ in 0..turned {
+            let slot = self.dice.below(plan.slots());
+            if (*line).look(slot)? {
+                line.drop(slot)?;
+            } else {
+                line.drive(slot)?;
+            }
         }
+        Ok(())
     }
-    Ok(())
-}
 
-/// Reads a line by both readers, which are to agree in verdict and list.
-fn agree<F: Field, L: Line>(rt: &impl Abort, field: &F, plan: &Plan, line: &L) {
-    let mut list = [77; 40];
-    let mut plainly = [77; 40];
-    assert_eq!(rt;
-        read(field, plan, line, &mut list),
-        read_plainly(field, plan, line, &mut plainly)
-    );
-    assert_eq!(rt; list, plainly);
-}
-
-/// Some lines with none to more cards than the plan bears, and with none to more turned slots than it bears.
-fn lines_agree<F: Field, L: Line>(
-    rt: &impl Abort,
-    field: &F,
-    plan: &Plan,
-    line: &mut L,
-    dice: &mut Dice,
-) -> Result<(), Fail> {
-    for i in 0..8 {
-        let cards = dice.below(plan.d().min(30) + 3);
-        let turned = dice.below(plan.e().min(30) + 3);
-        speak(field, plan, line, dice, cards, turned)?;
-        agree(rt, field, plan, line);
+    /// Reads a line by both readers, which are to agree in verdict and list.
+    fn agree<L: Line>(&self, rt: &impl Abort, line: &L) {
+        let mut list = [77; 40];
+        let mut plainly = [77; 40];
+        let code = &self.code;
+        assert_eq!(rt;
+            read(code.field, code.plan, line, &mut list),
+            PlainReader::new(code, line).read(&mut plainly)
+        );
+        assert_eq!(rt; list, plainly);
     }
-    Ok(())
+
+    /// Some lines with none to more cards than the plan bears, and with none to more turned slots than it bears.
+    fn lines_agree<L: Line>(&mut self, rt: &impl Abort, line: &mut L) -> Result<(), Fail> {
+        let plan = self.code.plan;
+        for _ in 0..8 {
+            let cards = self.dice.below(plan.d().min(30) + 3);
+            let turned = self.dice.below(plan.e().min(30) + 3);
+            self.speak(line, cards, turned)?;
+            self.agree(rt, line);
+        }
+        Ok(())
+    }
 }
 
-/// The same through a packed line, an inverted one, a stride and a junction.
+/// Lines of all kinds agree: a packed line, an inverted one, a stride and a junction.
 fn kinds_agree<F: Field>(
     rt: &impl Abort,
     field: &F,
@@ -89,36 +88,21 @@ fn kinds_agree<F: Field>(
     stride: u32,
     seed: u32,
 ) -> Result<(), Fail> {
-    let mut dice = Dice { last: seed };
+    let mut trial = Trial {
+        code: Code::new(field, plan)?,
+        dice: Dice { last: seed },
+    };
     let slots = plan.slots();
     let mut bytes = [0x5a; 512];
     let mut others = [0; 512];
-    lines_agree(
-        rt,
-        field,
-        plan,
-        &mut Packed::new(&mut bytes, slots),
-        &mut dice,
-    )?;
-    lines_agree(
-        rt,
-        field,
-        plan,
-        &mut Inverted::new(Packed::new(&mut bytes, slots)),
-        &mut dice,
-    )?;
-    lines_agree(
-        rt,
-        field,
-        plan,
-        &mut Stride::new(Packed::new(&mut bytes, slots), stride),
-        &mut dice,
-    )?;
+    trial.lines_agree(rt, &mut Packed::new(&mut bytes, slots))?;
+    trial.lines_agree(rt, &mut Inverted::new(Packed::new(&mut bytes, slots)))?;
+    trial.lines_agree(rt, &mut Stride::new(Packed::new(&mut bytes, slots), stride))?;
     let mut junction = Junction::new(
         Packed::new(&mut bytes, slots),
         Inverted::new(Packed::new(&mut others, slots)),
     );
-    lines_agree(rt, field, plan, &mut junction, &mut dice)
+    trial.lines_agree(rt, &mut junction)
 }
 
 #[test]

@@ -1,6 +1,0 @@
-use Rattle.std.proofs.Common.{◌≡◌, take}
-use Rattle.reader.proofs.spots.look_over.Given as goal
-
--- the slots so far are taken down
-abbrev pub invariant-loop-slot : goal.invariant-loop-slot
-invariant-loop-slot g l = take l.slot l.row ≡ take l.slot (g.L.Line.row l.line)
