@@ -1,5 +1,5 @@
 -- No call makes two enrolled names the same. Assumes nothing.
-use Rattle.std.proofs.Common.{◌≡◌, ℕ, ◌^◌, Bool, true, false, cond, not, ◌&&◌, eqb, ltb, length, Some, None, Option, refl, arith}
+use Rattle.std.proofs.Common.{◌≡◌, ℕ, ◌^◌, Bool, true, false, cond, not, ◌&&◌, eqb, ltb, length, Some, None, Option, refl}
 use Rattle.faults.specs.Faults.{fault}
 use Rattle.faults.specs.declared.fault.Fault.{Fault}
 use Rattle.faults.specs.declared.refusal.Refusal.TheVariants.{Field, Card, Taken, Open}
@@ -8,18 +8,19 @@ use Rattle.words.specs.declared.plan.Plan.{Plan}
 use Rattle.words.proofs.Limits.{passed, none_refuses}
 use Rattle.register.specs.Calls.{Call, to_enrol, to_strike, to_open, to_tick, to_knock, to_read, to_close, to_judge, name_free, name_known, refusal, after, accepts}
 use Rattle.names.specs.Names.{Alike}
-use Rattle.register.specs.Promises.{NamesDiffer, CallsKeepNamesApart}
+use Rattle.register.specs.Entries.{NamesDiffer}
+use Rattle.register.specs.Promises.{CallsKeepNamesApart}
 use Rattle.register.specs.Racks.{Rack, enrolled, number_of}
 use Rattle.register.proofs.Naming.{enrolling_keeps_names_apart, striking_keeps_names_apart}
 
 -- a name that is not enrolled has no number
 name_is_free : (number : Option ℕ) → name_free number ≡ None → number ≡ None
 name_is_free None e = refl
-name_is_free (Some i) e = let z : ◌≡◌ {A = ℕ} 0 1 = cc in absurd (omega arith)
+name_is_free (Some i) e = cc
 
 -- a name that is enrolled has a number
 pub name_is_known : (number : Option ℕ) (rest : ℕ → Option Fault) → name_known number rest ≡ None → (i : ℕ) × (number ≡ Some i) × (rest i ≡ None)
-name_is_known None rest e = let z : ◌≡◌ {A = ℕ} 0 1 = cc in absurd (omega arith)
+name_is_known None rest e = cc
 name_is_known (Some i) rest e = (i, refl, e)
 
 -- an accepted call keeps names apart

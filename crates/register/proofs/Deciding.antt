@@ -1,7 +1,8 @@
 -- What a reading says at the end of any run. Assumes nothing.
-use Rattle.std.proofs.Common.{◌≡◌, ℕ, zero, suc, ◌+◌, ◌^◌, ◌<◌, ◌≤◌, Bool, true, false, cond, not, eqb, ltb, List, [], ◌∷◌, length, None, filter, Option, sym, refl, ap, ◌∙◌, ap₂, arith}
+use Rattle.std.proofs.Common.{◌≡◌, ℕ, ◌^◌, ◌<◌, ◌≤◌, Bool, true, false, cond, not, eqb, ltb, List, [], ◌∷◌, length, Some, None, filter, Option, refl, ap, ◌∙◌, ap₂, arith}
 use Rattle.std.specs.List.{range_with_len, AllByRecursion}
-use Rattle.std.proofs.lemmas.Bool.{and_parts, cond-true, le-leb, lt-ltb, true≢false}
+use Rattle.std.proofs.lemmas.List.Sums.{length-filter, sum_by-le-sum_by}
+use Rattle.std.proofs.lemmas.Bool.{and_parts, cond-true, le-leb, lt-ltb}
 use Rattle.fields.specs.Lawful.{Tables, Lawful}
 use Rattle.words.specs.declared.plan.Plan.{Plan}
 use Rattle.words.proofs.Limits.{passed}
@@ -18,27 +19,19 @@ use Rattle.register.specs.Books.{Book}
 use Rattle.register.specs.Calls.{to_read, refusal}
 use Rattle.names.specs.Names.{Alike}
 use Rattle.register.specs.Promises.{RunDecides, RunsDecide}
-use Rattle.register.specs.Racks.{Rack, enrolled, first_of}
+use Rattle.register.specs.Racks.{Rack, enrolled}
 use Rattle.register.specs.Verdicts.{smallest_foreign, with_names, judged, rule}
 use Rattle.register.specs.declared.verdict.Verdict.TheVariants.{Named}
 use Rattle.register.proofs.Keeping.{Kept, Speaking, run_keeps}
 
 -- where one test passes another does: it keeps at least as many numbers
-kept_le : (p q : ℕ → Bool) (low n : ℕ) → ((z : ℕ) → p z ≡ true → q z ≡ true) → length (filter p (range_with_len low n)) ≤ length (filter q (range_with_len low n))
-kept_le p q low zero h = omega arith
-kept_le p q low (suc n) h = go (p low) (q low) refl refl (kept_le p q (low + 1) n h)
+kept_le : (p q : ℕ → Bool) (xs : List ℕ) → ((z : ℕ) → p z ≡ true → q z ≡ true) → length (filter p xs) ≤ length (filter q xs)
+kept_le p q xs h =
+    omega (arith, length-filter p xs, length-filter q xs, sum_by-le-sum_by (λ x. cond (p x) 1 0) (λ x. cond (q x) 1 0) xs (λ x. one (p x) (q x) (h x)))
   where
-    ps : List ℕ
-    ps = filter p (range_with_len (low + 1) n)
-
-    qs : List ℕ
-    qs = filter q (range_with_len (low + 1) n)
-
-    go : (a b : Bool) → p low ≡ a → q low ≡ b → length ps ≤ length qs → length (cond a (low ∷ ps) ps) ≤ length (cond b (low ∷ qs) qs)
-    go true true ea eb later = omega arith
-    go true false ea eb later = absurd (true≢false (sym (h low ea) ∙ eb))
-    go false true ea eb later = omega arith
-    go false false ea eb later = omega arith
+    one : (a b : Bool) → (a ≡ true → b ≡ true) → cond a 1 0 ≤ cond b 1 0
+    one true b passes = rw (passes refl) (omega arith)
+    one false b passes = omega arith
 
 -- the words of a set within e slots of a line are covered, so the set has at most as many numbers as are covered
 pub near_few : (f : Tables) → Lawful f → (n k e : ℕ) (row : List Bool) (xs : List ℕ) → n ≤ f.order → NumberSet (f.order ^ k) xs → distance f n k row xs ≤ e
@@ -47,15 +40,14 @@ near_few f l n k e row xs hn cards near =
     omega (
       arith,
       ap length (set_kept (f.order ^ k) xs cards),
-      kept_le (member xs) (covered f n k e row) 0 (f.order ^ k) (λ z m. le-leb (clear_slots f n k row z) e (omega (arith, inside_row f l n k row xs z hn m))),
+      kept_le (member xs) (covered f n k e row) (range_with_len 0 (f.order ^ k)) (λ z m. le-leb (clear_slots f n k row z) e (omega (arith, inside_row f l n k row xs z hn m))),
     )
 
 -- enrolled numbers have no smallest that is foreign
 none_foreign : {N : Type 0} (entries : List (Option N)) (numbers : List ℕ) → AllByRecursion (λ number. enrolled entries number ≡ true) numbers → smallest_foreign entries numbers ≡ None
 none_foreign entries [] all = refl
 none_foreign entries (x ∷ xs) all =
-    let rest = filter (λ number. not (enrolled entries number)) xs in
-    ap (λ known. first_of (cond (not known) (x ∷ rest) rest)) all.0 ∙ none_foreign entries xs all.1
+    ap (λ known. cond (not known) (Some x) (smallest_foreign entries xs)) all.0 ∙ none_foreign entries xs all.1
 
 -- a reading of enrolled numbers names them
 pub read_named : {N : Type 0} (f : Tables) (p : Plan) (entries : List (Option N)) (row : List Bool) (xs : List ℕ) → verdict f p.n p.k p.d p.e row ≡ told.Reading (length xs)

@@ -1,40 +1,20 @@
 -- Finding a name among the entries and on the roll: both give the same number. Assumes nothing.
-use Rattle.std.proofs.Common.{◌≡◌, ℕ, zero, suc, ◌+◌, ◌<◌, ◌≤◌, Bool, true, false, cond, ◌⊎◌, List, [], ◌∷◌, length, get_or, Some, None, filter, Option, sym, refl, ap, ◌∙◌, inl, inr, arith}
-use Rattle.std.specs.List.{range_with_len, ContainsAt as Has}
+use Rattle.std.proofs.Common.{◌≡◌, ℕ, zero, suc, ◌<◌, ◌≤◌, Bool, true, false, cond, ◌⊎◌, List, [], ◌∷◌, length, get_or, Some, None, Option, sym, refl, ap, ◌∙◌, inl, inr, arith}
+use Rattle.std.specs.List.{Contains, position, position_or_len}
 use Rattle.std.proofs.lemmas.List.{get_or_past}
-use Rattle.std.proofs.lemmas.Bool.{cases_eq, cases_lt, both_ways, false≢true}
+use Rattle.std.proofs.lemmas.List.Quantifiers.{position-Some}
+use Rattle.std.proofs.lemmas.List.Sums.{fails_before_first}
+use Rattle.std.proofs.lemmas.Bool.{cases_lt, both_ways, false≢true}
+use Rattle.std.proofs.lemmas.Bool.Decides.{nat_tests}
 use Rattle.register.specs.Books.{Enrolment, roll_number}
 use Rattle.names.specs.Names.{Alike}
-use Rattle.register.specs.Promises.{NamesDiffer, OnTheRoll}
-use Rattle.register.specs.Racks.{first_of, holds, number_of}
+use Rattle.register.specs.Entries.{NamesDiffer}
+use Rattle.register.specs.Promises.{OnTheRoll}
+use Rattle.register.specs.Racks.{holds, number_of}
 
--- nothing is not something
-pub none_or_some : {A : Type 0} (o : Option A) (a : A) → o ≡ None → o ≡ Some a → ⊥
-none_or_some o a p q = let z : ◌≡◌ {A = ℕ} 0 1 = cc in omega arith
-
--- the first of the numbers that a test keeps is one of them
-first_passes : (test : ℕ → Bool) (low n i : ℕ) → first_of (filter test (range_with_len low n)) ≡ Some i → (i < low + n) × (test i ≡ true)
-first_passes test low zero i e = absurd (none_or_some None i refl e)
-first_passes test low (suc n) i e = go (test low) refl e (first_passes test (low + 1) n i)
-  where
-    rest : List ℕ
-    rest = filter test (range_with_len (low + 1) n)
-
-    go : (b : Bool) → test low ≡ b → first_of (cond b (low ∷ rest) rest) ≡ Some i → (first_of rest ≡ Some i → (i < low + 1 + n) × (test i ≡ true)) → (i < low + suc n) × (test i ≡ true)
-    go true t here later = let is : low ≡ i = cc in (omega arith, ap test (sym is) ∙ t)
-    go false t here later = let found = later here in (omega arith, found.1)
-
--- where a test keeps no first number, no number passes it
-none_passes : (test : ℕ → Bool) (low n : ℕ) → first_of (filter test (range_with_len low n)) ≡ None → (i : ℕ) → low ≤ i → i < low + n → test i ≡ false
-none_passes test low zero e i l u = absurd (omega arith)
-none_passes test low (suc n) e i l u = go (test low) refl e (none_passes test (low + 1) n)
-  where
-    rest : List ℕ
-    rest = filter test (range_with_len (low + 1) n)
-
-    go : (b : Bool) → test low ≡ b → first_of (cond b (low ∷ rest) rest) ≡ None → (first_of rest ≡ None → (j : ℕ) → low + 1 ≤ j → j < low + 1 + n → test j ≡ false) → test i ≡ false
-    go true t none later = absurd (none_or_some (Some low) low none refl)
-    go false t none later = elim (cases_eq i low) [ inl is ↦ ap test is ∙ t | inr d ↦ later none i (omega arith) (omega arith) ]
+-- where no element passes, none stands before the end
+no_position : {X : Type 0} (test : X → Bool) (xs : List X) → position test xs ≡ None → length xs ≤ position_or_len test xs
+no_position test xs e = grind (arith, nat_tests)
 
 -- an entry holds the same name as one that is asked for
 pub record Found {N : Type 0} (same : N → N → Bool) (name : N) (entries : List (Option N)) (number : ℕ) : Type 0 where
@@ -47,8 +27,8 @@ module _ {N : Type 0} (same : N → N → Bool) (name : N) (entries : List (Opti
   -- at the number of a name the same name is enrolled
   pub number_found : (i : ℕ) → number_of same name entries ≡ Some i → Found same name entries i
   number_found i e =
-      let first = first_passes (λ number. holds same name (get_or entries number None)) 0 (length entries) i e in
-      go (get_or entries i None) refl (omega arith) first.1
+      let first = position-Some (holds same name) entries i None e in
+      go (get_or entries i None) refl first.0 first.1
     where
       go : (entry : Option N) → get_or entries i None ≡ entry → i < length entries → holds same name entry ≡ true → Found same name entries i
       go None is l h = absurd (false≢true h)
@@ -57,37 +37,36 @@ module _ {N : Type 0} (same : N → N → Bool) (name : N) (entries : List (Opti
   -- where a name has no number, no enrolled name is the same
   pub number_none : number_of same name entries ≡ None → (i : ℕ) (held : N) → get_or entries i None ≡ Some held → same held name ≡ false
   number_none e i held is = elim (cases_lt i (length entries)) [
-    | inl l ↦
-        ap (holds same name) (sym is) ∙ none_passes (λ number. holds same name (get_or entries number None)) 0 (length entries) e i (omega arith) (omega arith)
-    | inr past ↦ absurd (none_or_some (get_or entries i None) held (get_or_past entries i None past) is)
+    | inl l ↦ ap (holds same name) (sym is) ∙ fails_before_first (holds same name) entries i None (omega (arith, no_position (holds same name) entries e))
+    | inr past ↦ cc (get_or_past entries i None past)
   ]
 
 -- a list has its first
-pub has_here : {X : Type 0} (y : X) (ys : List X) (x : X) → y ≡ x → Has (y ∷ ys) x
-has_here y ys x is = (0, omega arith, λ d. is)
+pub has_here : {X : Type 0} (y : X) (ys : List X) (x : X) → y ≡ x → Contains (y ∷ ys) x
+has_here y ys x is = (0, omega arith, is)
 
 -- and what the rest of it has
-pub has_later : {X : Type 0} (y : X) (ys : List X) (x : X) → Has ys x → Has (y ∷ ys) x
+pub has_later : {X : Type 0} (y : X) (ys : List X) (x : X) → Contains ys x → Contains (y ∷ ys) x
 has_later y ys x h = (suc h.0, omega (arith, h.1), h.2)
 
 -- what a list has is its first, or the rest has it
-pub has_cases : {X : Type 0} (y : X) (ys : List X) (x : X) → Has (y ∷ ys) x → (y ≡ x) ⊎ Has ys x
-has_cases {X} y ys x h = go h.0 h.1 h.2
+pub has_cases : {X : Type 0} (y : X) (ys : List X) (x : X) → Contains (y ∷ ys) x → (y ≡ x) ⊎ Contains ys x
+has_cases y ys x h = go h.0 h.1 h.2
   where
-    go : (i : ℕ) → i < suc (length ys) → ((d : X) → get_or (y ∷ ys) i d ≡ x) → (y ≡ x) ⊎ Has ys x
-    go zero l e = inl (e x)
+    go : (i : ℕ) → i < suc (length ys) → get_or (y ∷ ys) i x ≡ x → (y ≡ x) ⊎ Contains ys x
+    go zero l e = inl e
     go (suc i) l e = inr (i, omega arith, e)
 
 -- the roll has the same name as one that is asked for, at a number
 pub record Rolled {N : Type 0} (same : N → N → Bool) (name : N) (roll : List (Enrolment N)) (number : ℕ) : Type 0 where
   pub held : N
-  pub has : Has roll (record { name = held; number = number })
+  pub has : Contains roll (record { name = held; number = number })
   pub alike : same held name ≡ true
 
 module _ {N : Type 0} (same : N → N → Bool) (name : N) where
   -- at the roll's number for a name it has the same name
   pub roll_found : (roll : List (Enrolment N)) (i : ℕ) → roll_number same name roll ≡ Some i → Rolled same name roll i
-  roll_found [] i e = absurd (none_or_some None i refl e)
+  roll_found [] i e = absurd (cc)
   roll_found (entry ∷ roll) i e = go (same entry.name name) refl e (roll_found roll i)
     where
       go : (b : Bool) → same entry.name name ≡ b → cond b (Some entry.number) (roll_number same name roll) ≡ Some i
@@ -101,14 +80,14 @@ module _ {N : Type 0} (same : N → N → Bool) (name : N) where
           record { held = found.held; has = has_later entry roll (record { name = found.held; number = i }) found.has; alike = found.alike }
 
   -- where the roll has no number for a name, it has no name that is the same
-  pub roll_none : (roll : List (Enrolment N)) → roll_number same name roll ≡ None → (held : N) (i : ℕ) → Has roll (record { name = held; number = i }) → same held name ≡ false
+  pub roll_none : (roll : List (Enrolment N)) → roll_number same name roll ≡ None → (held : N) (i : ℕ) → Contains roll (record { name = held; number = i }) → same held name ≡ false
   roll_none [] e held i h = absurd (omega (arith, h.1))
   roll_none (entry ∷ roll) e held i h = go (same entry.name name) refl e (has_cases entry roll (record { name = held; number = i }) h) (λ none. roll_none roll none held i)
     where
       go : (b : Bool) → same entry.name name ≡ b → cond b (Some entry.number) (roll_number same name roll) ≡ None
-          → (entry ≡ record { name = held; number = i }) ⊎ Has roll (record { name = held; number = i })
-          → (roll_number same name roll ≡ None → Has roll (record { name = held; number = i }) → same held name ≡ false) → same held name ≡ false
-      go true t none which later = absurd (none_or_some (Some entry.number) entry.number none refl)
+          → (entry ≡ record { name = held; number = i }) ⊎ Contains roll (record { name = held; number = i })
+          → (roll_number same name roll ≡ None → Contains roll (record { name = held; number = i }) → same held name ≡ false) → same held name ≡ false
+      go true t none which later = cc
       go false t none (inl is) later = ap (λ (x : Enrolment N). same x.name name) (sym is) ∙ t
       go false t none (inr further) later = later none further
 

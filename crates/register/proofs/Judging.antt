@@ -1,16 +1,15 @@
 -- The verdict by names, from the verdict before anyone's name is asked. Assumes nothing.
-use Rattle.std.proofs.Common.{◌≡◌, ℕ, ◌≤◌, Bool, true, false, cond, ltb, List, ◌++◌, length, take, drop, Option, sym, refl, ap, ◌∙◌, arith}
-use Rattle.std.proofs.lemmas.List.{take_at}
+use Rattle.std.proofs.Common.{◌≡◌, ℕ, ◌≤◌, Bool, true, false, cond, ltb, List, length, take, Option, sym, ap, ◌∙◌, arith}
 use Rattle.std.proofs.lemmas.Bool.{false≢true}
 use Rattle.fields.specs.Lawful.{Tables}
 use Rattle.words.specs.declared.plan.Plan.{Plan}
 use Rattle.reader.specs.Distances.{distance, cover}
 use Rattle.reader.specs.Promises.{ReadByDistance}
-use Rattle.reader.specs.Verdicts.{verdict, is_reading, listed}
+use Rattle.reader.specs.Verdicts.{verdict, is_reading}
 use Rattle.reader.specs.declared.verdict.Verdict as unnamed
 use Rattle.reader.specs.declared.verdict.Verdict.TheVariants as told
 use Rattle.register.specs.Promises.{JudgedByDistance}
-use Rattle.register.specs.Verdicts.{by_names, with_names, reading_count, smallest_foreign, judged, rule}
+use Rattle.register.specs.Verdicts.{by_names, with_names, reading_count, smallest_foreign, rule}
 use Rattle.register.specs.declared.verdict.Verdict.{Verdict}
 
 -- a reading counts the covered numbers
@@ -24,21 +23,6 @@ reading_counts f p row count e = go (ltb p.d (length c)) (ltb p.e (distance f p.
     go true b z = absurd (false≢true (ap is_reading z))
     go false true z = absurd (false≢true (ap is_reading z))
     go false false z = cc
-
--- the numbers that a verdict lists at the front of the list, as far as names are asked for them, are the covered ones
-pub judged_is : {N : Type 0} (f : Tables) (p : Plan) (entries : List (Option N)) (row : List Bool) (list : List ℕ) (u : unnamed.Verdict) → u ≡ verdict f p.n p.k p.d p.e row
-    → with_names u (smallest_foreign entries (take (reading_count u) (listed f p.n p.k p.d p.e row list))) ≡ judged f p entries row
-judged_is f p entries row list u e = ap (λ w. with_names u (smallest_foreign entries (take (reading_count u) (cond (is_reading w) (c ++ drop (length c) list) list)))) (sym e) ∙ (go u e ∙ ap (λ w. with_names w (smallest_foreign entries c)) e)
-  where
-    c : List ℕ
-    c = cover f p.n p.k p.e row
-
-    go : (w : unnamed.Verdict) → w ≡ verdict f p.n p.k p.d p.e row
-        → with_names w (smallest_foreign entries (take (reading_count w) (cond (is_reading w) (c ++ drop (length c) list) list))) ≡ with_names w (smallest_foreign entries c)
-    go (told.Overload count) z = refl
-    go (told.Noise away) z = refl
-    go (told.Reading count) z =
-        ap (λ xs. by_names (smallest_foreign entries xs) count) (take_at c (drop (length c) list) count (sym (reading_counts f p row count (sym z))))
 
 -- what distance guarantees of a verdict stays true when names are asked
 pub names_keep_promises : {N : Type 0} (f : Tables) (p : Plan) (entries : List (Option N)) (row : List Bool) (list : List ℕ) (u : unnamed.Verdict) (v : Verdict)

@@ -14,7 +14,8 @@ use Rattle.reader.specs.Sets.{NumberSet}
 use Rattle.register.specs.Books.{Book, blank, ticked_with, roll_number, noted, fed}
 use Rattle.register.specs.Calls.{Call, to_enrol, to_strike, to_open, to_tick, to_knock, to_read, to_close, to_judge, mark_check, name_known, ticked_row, refusal, after, accepts, left_by}
 use Rattle.names.specs.Names.{Alike}
-use Rattle.register.specs.Promises.{NamesDiffer, OnTheRoll}
+use Rattle.register.specs.Entries.{NamesDiffer}
+use Rattle.register.specs.Promises.{OnTheRoll}
 use Rattle.register.specs.Racks.{Rack, New, enrolled, number_of}
 use Rattle.register.specs.Runs.{Run, begun, called}
 use Rattle.register.proofs.Finding.{number_found, same_number}
@@ -74,49 +75,30 @@ knocked_speaking f p entries row ticked knocks slot b s =
     }
 
 module _ {N : Type 0} (same : N → N → Bool) (alike : Alike same) (f : Tables) (p : Plan) (s : Rack N) (b : Book N) (kept : Kept same f p s b) where
-  -- an accepted enrolment keeps it
-  enrol_keeps : (name : N) (number : ℕ) → refusal same f p s (to_enrol name number) ≡ None → Kept same f p (after same f p s (to_enrol name number)) (noted same b (to_enrol name number))
-  enrol_keeps name number none =
+  -- after an accepted call the enrolled names and their numbers are the roll's
+  roll_after : (call : Call N) → refusal same f p s call ≡ None → OnTheRoll (after same f p s call).entries (noted same b call).roll
+  roll_after (to_enrol name number) none =
       let c1 = passed _ _ _ none in
       let c2 = passed _ _ _ c1.1 in
       let c3 = passed _ _ _ c2.1 in
       let c4 = passed _ _ _ c3.1 in
       let card = and_parts (ltb number (p.q ^ p.k)) (ltb number (length s.entries)) c3.0 in
-      let within = ltb-true number (length s.entries) card.1 in
-      let free = not-true (enrolled s.entries number) c4.0 in
-      record {
-        roll_is_kept = enrolling_keeps_the_roll s.entries b.roll number name within free kept.roll_is_kept;
-        names_differ = accepted_apart same alike f p s (to_enrol name number) none kept.names_differ;
-        speaking = λ opened. absurd (both_ways s.opened (not-true s.opened c2.0) opened);
-      }
-
-  -- so does an accepted striking,
-  strike_keeps : (name : N) → refusal same f p s (to_strike name) ≡ None → Kept same f p (after same f p s (to_strike name)) (noted same b (to_strike name))
-  strike_keeps name none =
+      enrolling_keeps_the_roll s.entries b.roll number name (ltb-true number (length s.entries) card.1) (not-true (enrolled s.entries number) c4.0) kept.roll_is_kept
+  roll_after (to_strike name) none =
       let c1 = passed _ _ _ none in
       let known = name_is_known (number_of same name s.entries) (λ number. None) c1.1 in
-      let found = number_found same name s.entries known.0 known.1 in
-      record {
-        roll_is_kept = rw known.1 (striking_keeps_the_roll same alike s.entries b.roll known.0 name found kept.names_differ kept.roll_is_kept);
-        names_differ = accepted_apart same alike f p s (to_strike name) none kept.names_differ;
-        speaking = λ opened. absurd (both_ways s.opened (not-true s.opened c1.0) opened);
-      }
+      rw known.1 (striking_keeps_the_roll same alike s.entries b.roll known.0 name (number_found same name s.entries known.0 known.1) kept.names_differ kept.roll_is_kept)
+  roll_after to_open none = kept.roll_is_kept
+  roll_after (to_tick mark name) none = kept.roll_is_kept
+  roll_after (to_knock mark slot) none = kept.roll_is_kept
+  roll_after (to_read mark list) none = kept.roll_is_kept
+  roll_after (to_close mark) none = kept.roll_is_kept
+  roll_after (to_judge list) none = kept.roll_is_kept
 
-  -- an accepted opening,
-  open_keeps : refusal same f p s to_open ≡ None → Kept same f p (after same f p s to_open) (noted same b to_open)
-  open_keeps none =
-      let c1 = passed _ _ _ none in
-      let c2 = passed _ _ _ c1.1 in
-      let c3 = passed _ _ _ c2.1 in
-      record {
-        roll_is_kept = kept.roll_is_kept;
-        names_differ = kept.names_differ;
-        speaking = λ opened. opened_speaking f p s.entries s.row (eqb-true f.order p.q c1.0) (eqb-true (length s.row) (p.n * p.q) c3.0);
-      }
-
-  -- an accepted tick,
-  tick_keeps : (mark : ℕ) (name : N) → refusal same f p s (to_tick mark name) ≡ None → Kept same f p (after same f p s (to_tick mark name)) (noted same b (to_tick mark name))
-  tick_keeps mark name none =
+  -- an accepted tick drives the card of an enrolled name, which the book ticks
+  ticked_after : (mark : ℕ) (name : N) → refusal same f p s (to_tick mark name) ≡ None → s.opened ≡ true
+      → Speaking f p s.entries (ticked_row f p.k (number_of same name s.entries) s.row) (ticked_with (roll_number same name b.roll) b.ticked) b.knocks
+  ticked_after mark name none opened =
       let number_rest : ℕ → Option Fault = λ number. number_check p number None in
       let name_rest = name_known (number_of same name s.entries) number_rest in
       let line_rest = line_check p s.row name_rest in
@@ -126,38 +108,37 @@ module _ {N : Type 0} (same : N → N → Bool) (alike : Alike same) (f : Tables
       let known = name_is_known (number_of same name s.entries) number_rest c3.1 in
       let c4 = passed _ _ _ known.2 in
       let found = number_found same name s.entries known.0 known.1 in
-      let again = same_number same alike name s.entries b.roll kept.roll_is_kept kept.names_differ in
-      let rolled : roll_number same name b.roll ≡ Some known.0 = sym again ∙ known.1 in
-      let below = ltb-true known.0 (p.q ^ p.k) c4.0 in
-      record {
-        roll_is_kept = kept.roll_is_kept;
-        names_differ = kept.names_differ;
-        speaking = λ opened. rw (known.1, rolled) (ticked_speaking f p s.entries s.row b.ticked b.knocks known.0 below (ap is_some found.is) (kept.speaking opened));
-      }
+      let rolled : roll_number same name b.roll ≡ Some known.0 = sym (same_number same alike name s.entries b.roll kept.roll_is_kept kept.names_differ) ∙ known.1 in
+      rw (known.1, rolled) (ticked_speaking f p s.entries s.row b.ticked b.knocks known.0 (ltb-true known.0 (p.q ^ p.k) c4.0) (ap is_some found.is) (kept.speaking opened))
 
-  -- an accepted knock,
-  knock_keeps : (mark slot : ℕ) → Kept same f p (after same f p s (to_knock mark slot)) (noted same b (to_knock mark slot))
-  knock_keeps mark slot =
-      record {
-        roll_is_kept = kept.roll_is_kept;
-        names_differ = kept.names_differ;
-        speaking = λ opened. knocked_speaking f p s.entries s.row b.ticked b.knocks slot (not (get_or s.row slot false)) (kept.speaking opened);
-      }
+  -- after an accepted call the ticked cards of an open frame are no farther from the line than there were knocks
+  speaking_after : (call : Call N) → refusal same f p s call ≡ None → (after same f p s call).opened ≡ true
+      → Speaking f p (after same f p s call).entries (after same f p s call).row (noted same b call).ticked (noted same b call).knocks
+  speaking_after (to_enrol name number) none opened =
+      let c1 = passed _ _ _ none in
+      let c2 = passed _ _ _ c1.1 in
+      absurd (both_ways s.opened (not-true s.opened c2.0) opened)
+  speaking_after (to_strike name) none opened =
+      let c1 = passed _ _ _ none in
+      absurd (both_ways s.opened (not-true s.opened c1.0) opened)
+  speaking_after to_open none opened =
+      let c1 = passed _ _ _ none in
+      let c2 = passed _ _ _ c1.1 in
+      let c3 = passed _ _ _ c2.1 in
+      opened_speaking f p s.entries s.row (eqb-true f.order p.q c1.0) (eqb-true (length s.row) (p.n * p.q) c3.0)
+  speaking_after (to_tick mark name) none opened = ticked_after mark name none opened
+  speaking_after (to_knock mark slot) none opened = knocked_speaking f p s.entries s.row b.ticked b.knocks slot (not (get_or s.row slot false)) (kept.speaking opened)
+  speaking_after (to_read mark list) none opened = kept.speaking opened
+  speaking_after (to_close mark) none opened = absurd (both_ways false refl opened)
+  speaking_after (to_judge list) none opened = kept.speaking opened
 
-  -- an accepted closing,
-  close_keeps : (mark : ℕ) → Kept same f p (after same f p s (to_close mark)) (noted same b (to_close mark))
-  close_keeps mark = record { roll_is_kept = kept.roll_is_kept; names_differ = kept.names_differ; speaking = λ opened. absurd (both_ways false refl opened) }
-
-  -- and so every accepted call
+  -- so every accepted call keeps it
   accepted_keeps : (call : Call N) → refusal same f p s call ≡ None → Kept same f p (after same f p s call) (noted same b call)
-  accepted_keeps (to_enrol name number) none = enrol_keeps name number none
-  accepted_keeps (to_strike name) none = strike_keeps name none
-  accepted_keeps to_open none = open_keeps none
-  accepted_keeps (to_tick mark name) none = tick_keeps mark name none
-  accepted_keeps (to_knock mark slot) none = knock_keeps mark slot
-  accepted_keeps (to_read mark list) none = kept
-  accepted_keeps (to_close mark) none = close_keeps mark
-  accepted_keeps (to_judge list) none = kept
+  accepted_keeps call none = record {
+    roll_is_kept = roll_after call none;
+    names_differ = accepted_apart same alike f p s call none kept.names_differ;
+    speaking = speaking_after call none;
+  }
 
   -- every call keeps it: a refused one changes nothing
   pub call_keeps : (call : Call N) → Kept same f p (left_by same f p s call) (fed same b call (accepts same f p s call))

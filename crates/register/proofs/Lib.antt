@@ -8,7 +8,5 @@ pub mod Judging
 pub mod Keeping
 pub mod Naming
 pub mod Refusing
-pub mod Searching
 pub mod Telling
 pub mod Ticking
-pub mod Writing

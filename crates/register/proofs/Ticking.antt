@@ -4,6 +4,7 @@ use Rattle.std.specs.List.{AllByRecursion}
 use Rattle.std.proofs.lemmas.List.FromFn.{length-map-range_with_len, get_or-map-range_with_len}
 use Rattle.std.proofs.lemmas.List.{get_or_past, get_or-replicate, get_or-set_other, length-replicate}
 use Rattle.std.proofs.lemmas.Bool.{cases_lt, eqb-true, eqb-false, ltb-true, ltb-false}
+use Rattle.std.proofs.Math.Bool.{or-false, or_assoc, or_comm}
 use Rattle.fields.specs.Lawful.{Tables}
 use Rattle.frames.specs.Frames.{differ}
 use Rattle.frames.proofs.Counting.{count_mono, count_none, count_but_one}
@@ -43,35 +44,21 @@ with_number_all P x (y ∷ ys) here all = go (ltb x y) (eqb x y) (with_number_al
 -- the joined words of a set with a number more are those of the set and the number's word
 pub with_number_joined : (f : Tables) (k x : ℕ) (xs : List ℕ) (slot : ℕ) → joined f k (with_number x xs) slot ≡ (joined f k xs slot || in_word f k x slot)
 unfolding joined
-with_number_joined f k x [] slot = alone (in_word f k x slot)
-  where
-    alone : (a : Bool) → (a || false) ≡ a
-    alone true = refl
-    alone false = refl
+with_number_joined f k x [] slot = or-false (in_word f k x slot)
 with_number_joined f k x (y ∷ ys) slot = go (ltb x y) (eqb x y) refl (with_number_joined f k x ys slot)
   where
-    turned : (a b : Bool) → (a || b) ≡ (b || a)
-    turned true true = refl
-    turned true false = refl
-    turned false true = refl
-    turned false false = refl
-
     again : (a b : Bool) → (a || b) ≡ ((a || b) || a)
     again true b = refl
     again false true = refl
     again false false = refl
 
-    grouped : (a b c : Bool) → (a || (b || c)) ≡ ((a || b) || c)
-    grouped true b c = refl
-    grouped false b c = refl
-
     go : (b c : Bool) → eqb x y ≡ c → joined f k (with_number x ys) slot ≡ (joined f k ys slot || in_word f k x slot)
         → joined f k (cond b (x ∷ y ∷ ys) (cond c (y ∷ ys) (y ∷ with_number x ys))) slot ≡ ((in_word f k y slot || joined f k ys slot) || in_word f k x slot)
-    go true c ec later = turned (in_word f k x slot) (in_word f k y slot || joined f k ys slot)
+    go true c ec later = or_comm (in_word f k x slot) (in_word f k y slot || joined f k ys slot)
     go false true ec later =
         again (in_word f k y slot) (joined f k ys slot) ∙ ap (λ z. (in_word f k y slot || joined f k ys slot) || in_word f k z slot) (sym (eqb-true x y ec))
     go false false ec later =
-        ap (λ j. in_word f k y slot || j) later ∙ grouped (in_word f k y slot) (joined f k ys slot) (in_word f k x slot)
+        ap (λ j. in_word f k y slot || j) later ∙ sym (or_assoc (in_word f k y slot) (joined f k ys slot) (in_word f k x slot))
 
 -- a row is as long after a word is driven
 pub length_driven : (f : Tables) (k x : ℕ) (row : List Bool) → length (driven f k x row) ≡ length row

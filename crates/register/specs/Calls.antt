@@ -55,14 +55,18 @@ knock_refusal s mark slot = mark_check s mark (check (nat_lt slot (length s.row)
 abbrev pub close_refusal : {N : Type 0} → Rack N → ℕ → Option Fault
 close_refusal s mark = mark_check s mark None
 
+-- what a tick refuses once its field is of the plan's order
+abbrev pub tick_refusal : {N : Type 0} → (N → N → Bool) → Plan → Rack N → ℕ → N → Option Fault
+tick_refusal same p s mark name =
+    mark_check s mark (line_check p s.row (name_known (number_of same name s.entries) (λ number. check (nat_lt number (p.q ^ p.k)) (fault Card number) None)))
+
 -- what a call refuses, its checks in order
 abbrev pub refusal : {N : Type 0} → (N → N → Bool) → Tables → Plan → Rack N → Call N → Option Fault
 refusal same f p s (to_enrol name number) =
     order_check f p (open_check s (card_check p s.entries number (check (not (enrolled s.entries number)) (fault Taken number) (name_free (number_of same name s.entries)))))
 refusal same f p s (to_strike name) = strike_refusal same s name
 refusal same f p s to_open = order_check f p (open_check s (line_check p s.row None))
-refusal same f p s (to_tick mark name) =
-    order_check f p (mark_check s mark (line_check p s.row (name_known (number_of same name s.entries) (λ number. check (nat_lt number (p.q ^ p.k)) (fault Card number) None))))
+refusal same f p s (to_tick mark name) = order_check f p (tick_refusal same p s mark name)
 refusal same f p s (to_knock mark slot) = knock_refusal s mark slot
 refusal same f p s (to_read mark list) = order_check f p (mark_check s mark (line_check p s.row (room_check p list None)))
 refusal same f p s (to_close mark) = close_refusal s mark

@@ -1,9 +1,9 @@
 pub mod Books
 pub mod Calls
+pub mod Entries
 pub mod Examples
 pub mod Promises
 pub mod Racks
 pub mod Runs
 pub mod Texts
 pub mod Verdicts
-pub mod Writing

@@ -1,9 +1,10 @@
 -- What a reading guarantees. Assumes nothing.
-use Rattle.std.specs.Prelude.{◌≡◌, ℕ, ◌<◌, ◌≤◌, Bool, true, List, length, take, Some, None, Option, slice_index_or}
-use Rattle.std.specs.List.{ContainsAt as Has}
+use Rattle.std.specs.Prelude.{◌≡◌, ℕ, ◌<◌, ◌≤◌, Bool, List, length, take, Some, None, Option, slice_index_or}
+use Rattle.std.specs.List.{Contains}
 use Rattle.fields.specs.Lawful.{Tables}
 use Rattle.words.specs.declared.plan.Plan.{Plan}
 use Rattle.reader.specs.Promises.{DecidedByDistance}
+use Rattle.register.specs.Entries.{NamesDiffer}
 use Rattle.register.specs.Racks.{Rack, New}
 use Rattle.register.specs.Books.{Book, Enrolment}
 use Rattle.register.specs.Calls.{Call, left_by}
@@ -12,14 +13,10 @@ use Rattle.register.specs.Verdicts.{by_names, smallest_foreign, rule}
 use Rattle.register.specs.declared.verdict.Verdict.{Verdict}
 use Rattle.register.specs.declared.verdict.Verdict.TheVariants.{Named}
 
--- no two enrolled names are the same
-abbrev pub NamesDiffer : {N : Type 0} → (N → N → Bool) → List (Option N) → Type 0
-NamesDiffer {N} same entries = (i j : ℕ) (a b : N) → slice_index_or entries i None ≡ Some a → slice_index_or entries j None ≡ Some b → same a b ≡ true → i ≡ j
-
 -- the enrolled names and their numbers are the roll's
 pub record OnTheRoll {N : Type 0} (entries : List (Option N)) (roll : List (Enrolment N)) : Type 0 where
-  pub enrolled_is_on_the_roll : (name : N) (number : ℕ) → slice_index_or entries number None ≡ Some name → Has roll (record { name = name; number = number })
-  pub on_the_roll_is_enrolled : (name : N) (number : ℕ) → Has roll (record { name = name; number = number }) → slice_index_or entries number None ≡ Some name
+  pub enrolled_is_on_the_roll : (name : N) (number : ℕ) → slice_index_or entries number None ≡ Some name → Contains roll (record { name = name; number = number })
+  pub on_the_roll_is_enrolled : (name : N) (number : ℕ) → Contains roll (record { name = name; number = number }) → slice_index_or entries number None ≡ Some name
 
 -- what holds of every run from a new rack that leads to this rack, for the verdict of an accepted read on it and the list
 -- as it is then

@@ -1,6 +1,6 @@
 -- What the calls of a register work on. Assumes nothing.
-use Rattle.std.specs.Prelude.{◌≡◌, ℕ, ◌*◌, Bool, false, cond, ◌&&◌, ◌||◌, List, [], ◌∷◌, map, length, replicate, is_some, Some, None, filter, Option, nat_lt, slice_index_or}
-use Rattle.std.specs.List.{range_with_len}
+use Rattle.std.specs.Prelude.{◌≡◌, ℕ, ◌*◌, Bool, false, cond, ◌&&◌, ◌||◌, List, map, length, replicate, is_some, Some, None, Option, nat_lt, slice_index_or}
+use Rattle.std.specs.List.{range_with_len, position}
 use Rattle.fields.specs.Lawful.{Tables}
 use Rattle.frames.specs.Frames.{stands}
 use Rattle.words.specs.Words.{in_word}
@@ -30,14 +30,9 @@ abbrev pub holds : {N : Type 0} → (N → N → Bool) → N → Option N → Bo
 holds same name None = false
 holds same name (Some held) = same held name
 
--- the first number of a list, where it has one
-abbrev pub first_of : List ℕ → Option ℕ
-first_of [] = None
-first_of (x ∷ xs) = Some x
-
--- the number at which the same name is enrolled
+-- the number at which the same name is enrolled: the first whose entry holds it
 abbrev pub number_of : {N : Type 0} → (N → N → Bool) → N → List (Option N) → Option ℕ
-number_of same name entries = first_of (filter (λ number. holds same name (slice_index_or entries number None)) (range_with_len 0 (length entries)))
+number_of same name entries = position (holds same name) entries
 
 -- a number that was found, or 0
 abbrev pub number_or_0 : Option ℕ → ℕ

@@ -1,18 +1,19 @@
 -- The verdict on a line by the names that are enrolled. Assumes nothing.
-use Rattle.std.specs.Prelude.{ℕ, Bool, not, List, [], ◌∷◌, Some, None, filter, Option}
+use Rattle.std.specs.Prelude.{ℕ, Bool, not, List, [], ◌∷◌, Some, None, Option}
+use Rattle.std.specs.List.{find}
 use Rattle.fields.specs.Lawful.{Tables}
 use Rattle.words.specs.declared.plan.Plan.{Plan}
 use Rattle.reader.specs.Distances.{cover}
 use Rattle.reader.specs.Verdicts.{verdict}
 use Rattle.reader.specs.declared.verdict.Verdict as unnamed
 use Rattle.reader.specs.declared.verdict.Verdict.TheVariants as told
-use Rattle.register.specs.Racks.{enrolled, first_of}
+use Rattle.register.specs.Racks.{enrolled}
 use Rattle.register.specs.declared.verdict.Verdict.{Verdict}
 use Rattle.register.specs.declared.verdict.Verdict.TheVariants.{Overload, Noise, Foreign, Named}
 
 -- the smallest number of an ascending list that is not enrolled
 abbrev pub smallest_foreign : {N : Type 0} → List (Option N) → List ℕ → Option ℕ
-smallest_foreign entries numbers = first_of (filter (λ number. not (enrolled entries number)) numbers)
+smallest_foreign entries numbers = find (λ number. not (enrolled entries number)) numbers
 
 -- a reading is foreign where some number of it is not enrolled, and named otherwise
 abbrev pub by_names : Option ℕ → ℕ → Verdict

@@ -7,6 +7,7 @@ use faults::Fault;
 /// given up only once it is closed.
 pub struct Frame {
     pub(crate) mark: u32,
+    // A flag, since the drop has to demand that closing spent the frame, and can demand only what a field says.
     pub(crate) spent: bool,
 }
 

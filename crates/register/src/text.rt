@@ -1,75 +1,88 @@
 //! A verdict's line of text.
-ghost use Rattle.std.specs.Prelude.{◌≡◌, ◌+◌, ◌<◌, ◌≤◌, ◌∷◌, ◌++◌, length, drop, decimal};
-ghost use Rattle.std.specs.List.{AllByRecursion};
-ghost use Rattle.register.specs.Texts.{field, verdict_line};
+ghost use Rattle.std.specs.Prelude.{◌≡◌, ◌+◌, ◌*◌, ◌<◌, ◌≤◌, ◌∷◌, ◌++◌, length};
+ghost use Rattle.std.specs.List.{All, flat_map};
+ghost use Rattle.arrayvec.specs.ArrayString.{array_string_len};
+ghost use Rattle.register.specs.Texts.{letter, field, verdict_line, with_line};
 ghost use Rattle.register.specs.Verdicts.{values};
-ghost use Rattle.register.specs.Writing.{over, heading};
 
 use crate::verdict::Verdict;
+use arrayvec::ArrayString;
+use itoa::Buffer;
 
-/// Writes the line of a verdict and of the numbers that it lists into a text, and answers how many bytes it has. The rest
-/// of the text stays.
-pub(crate) fn write_line(verdict: Verdict, numbers: &[u32], text: &mut [u8]) -> usize
-    requires { (AllByRecursion (λ x. x < 100000) (values verdict)) × ((AllByRecursion (λ x. x < 100000) numbers.now) × ((length numbers.now ≤ 32) × (256 ≤ length text.old))) }
-    ensures count { result ≡ length (verdict_line verdict numbers.now) }
-    ensures after { text.new ≡ verdict_line verdict numbers.now ++ drop (length (verdict_line verdict numbers.now)) text.old }
-{
-    let mut end = write_verdict(verdict, text);
-    for number in numbers {
-        end = write_field(*number, text, end);
-    }
-    text[end] = b'\n';
-    end + 1
+/// The room that a line is given. No line is longer.
+pub(crate) const LINE_ROOM: usize = 256;
+
+/// A verdict with the numbers that it lists. No value and no number is large, and the numbers are few.
+#[derive(Drop)]
+pub(crate) struct Told<'a> {
+    pub(crate) verdict: Verdict,
+    pub(crate) numbers: &'a [u32],
+    ghost values_fit: { All (λ x. x < 100000) (values verdict) },
+    ghost numbers_fit: { All (λ x. x < 100000) numbers.now },
+    ghost few: { length numbers.now ≤ 32 },
 }
 
-/// Writes the letter and the values of a verdict at the front of a text, and answers the place after them.
-fn write_verdict(verdict: Verdict, text: &mut [u8]) -> usize
-    requires { (AllByRecursion (λ x. x < 100000) (values verdict)) × (13 ≤ length text.old) }
-    ensures end { result ≡ length (heading verdict) }
-    ensures after { text.new ≡ over text.old 0 (heading verdict) }
-{
-    match verdict {
-        Verdict::Overload(count) => write_first(b'O', count, text),
-        Verdict::Noise(distance) => write_first(b'X', distance, text),
-        Verdict::Foreign { smallest, count } => {
-            let end = write_first(b'F', smallest, text);
-            write_field(count, text, end)
+// Not `Display`: what is written by `write!` may fail as far as its contract says, and a line never does.
+impl Told<'_> {
+    /// Writes the line at the front of a text, and answers how many bytes it has. The rest of the text stays.
+    pub(crate) fn write(&self, text: &mut [u8]) -> usize
+        requires { LINE_ROOM ≤ length text.old }
+        ensures count { result ≡ length (verdict_line self.now.verdict self.now.numbers.now) }
+        ensures text { text.new ≡ with_line (verdict_line self.now.verdict self.now.numbers.now) text.old }
+    {
+        let line = self.line();
+        text[..line.len()].copy_from_slice(line.as_bytes());
+        line.len()
+    }
+
+    /// The line: the verdict's letter and values, and the numbers that it lists.
+    fn line(&self) -> ArrayString<LINE_ROOM>
+        ensures { result.bytes ≡ verdict_line self.now.verdict self.now.numbers.now }
+    {
+        let mut line = self.front();
+        for number in self.numbers {
+            push_field(&mut line, *number);
         }
-        Verdict::Named(count) => write_first(b'N', count, text),
+        line.push('\n');
+        line
+    }
+
+    /// The front of the line: the verdict's letter and values.
+    fn front(&self) -> ArrayString<LINE_ROOM>
+        ensures bytes { result.bytes ≡ letter self.now.verdict ∷ flat_map field (values self.now.verdict) }
+        ensures short { array_string_len result ≤ 13 }
+    {
+        let mut line = ArrayString::new();
+        match self.verdict {
+            Verdict::Overload(count) => {
+                line.push('O');
+                push_field(&mut line, count);
+            }
+            Verdict::Noise(distance) => {
+                line.push('X');
+                push_field(&mut line, distance);
+            }
+            Verdict::Foreign { smallest, count } => {
+                line.push('F');
+                push_field(&mut line, smallest);
+                push_field(&mut line, count);
+            }
+            Verdict::Named(count) => {
+                line.push('N');
+                push_field(&mut line, count);
+            }
+        }
+        line
     }
 }
 
-/// Writes a letter and the first value behind it at the front of a text, and answers the place after them.
-fn write_first(letter: u8, value: u32, text: &mut [u8]) -> usize
-    requires { (value < 100000) × (7 ≤ length text.old) }
-    ensures end { result ≡ length (letter ∷ field value) }
-    ensures after { text.new ≡ over text.old 0 (letter ∷ field value) }
+/// Adds a field to a line: a blank and a number in decimal.
+fn push_field(line: &mut ArrayString<LINE_ROOM>, number: u32)
+    requires small { number < 100000 }
+    requires room { array_string_len line.old + 6 ≤ LINE_ROOM }
+    ensures bytes { line.new.bytes ≡ line.old.bytes ++ field number }
+    ensures short { array_string_len line.new ≤ array_string_len line.old + 6 }
 {
-    text[0] = letter;
-    write_field(value, text, 1)
-}
-
-/// Writes a blank and a number in decimal at a place of a text, and answers the place after them.
-fn write_field(number: u32, text: &mut [u8], start: usize) -> usize
-    requires { (number < 100000) × (start + 6 ≤ length text.old) }
-    ensures end { result ≡ start + length (field number) }
-    ensures after { text.new ≡ over text.old start (field number) }
-{
-    text[start] = b' ';
-    write_number(number, text, start + 1)
-}
-
-/// Writes a number in decimal at a place of a text, and answers the place after it.
-fn write_number(number: u32, text: &mut [u8], start: usize) -> usize
-    requires { start + length (decimal number) ≤ length text.old }
-    ensures end { result ≡ start + length (decimal number) }
-    ensures after { text.new ≡ over text.old start (decimal number) }
-{
-    if number < 10 {
-        text[start] = b'0' + number as u8;
-        return start + 1;
-    }
-    let end = write_number(number / 10, text, start);
-    text[end] = b'0' + (number % 10) as u8;
-    end + 1
+    line.push(' ');
+    line.push_str(Buffer::new().format(number));
 }

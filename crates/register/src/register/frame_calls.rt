@@ -2,8 +2,7 @@
 ghost use Rattle.std.specs.Prelude.{◌≡◌, ◌*◌, ◌^◌, ◌<◌, ◌≤◌, Bool, true, false, not, List, [], length, is_some, None, Ok, slice_index_or, slice_set};
 ghost use Rattle.faults.specs.Faults.{answer};
 ghost use Rattle.frames.specs.Frames.{slot_answer};
-ghost use Rattle.reader.specs.Calls.{line_check};
-ghost use Rattle.register.specs.Calls.{to_open, to_tick, refusal, left_by, mark_check, knock_refusal, knocked, close_refusal, closed, close_answer, unless};
+ghost use Rattle.register.specs.Calls.{to_open, to_tick, refusal, left_by, open_check, mark_check, tick_refusal, knock_refusal, knocked, close_refusal, closed, close_answer, unless};
 ghost use Rattle.register.specs.Racks.{rack_of, driven, number_of, number_or_0};
 
 use crate::frame::{Frame, Refused};
@@ -12,7 +11,8 @@ use faults::{Fault, Refusal, refuse_unless};
 use fields::Field;
 use lines::{Line, drop_all};
 use names::Name;
-use words::{Plan, same_order, slot};
+use reader::has_slots;
+use words::{Code, Plan, same_order};
 
 impl<'a, N: Name> Register<'a, N> {
     /// Accepts the mark of an open frame of this register; any other is refused with 14 and that mark.
@@ -24,6 +24,13 @@ impl<'a, N: Name> Register<'a, N> {
             Refusal::Mark,
             frame.mark as u64,
         )
+    }
+
+    /// Accepts a register with no frame open; any other is refused with 13 and the mark.
+    pub(crate) fn none_open(&self) -> Result<(), Fault>
+        ensures { result ≡ answer (open_check (rack_of self.now []) None) tt }
+    {
+        refuse_unless(!self.opened, Refusal::Open, self.mark as u64)
     }
 
     /// Opens a frame: drops every slot of the line and hands out a frame that bears the mark. The checks, in order: a field
@@ -49,12 +56,13 @@ impl<'a, N: Name> Register<'a, N> {
         })
     }
 
+    // A rule of the project hands each call field and plan, and the functions named `may_` make its first checks of both.
     /// The checks of `open`.
     fn may_open<F: Field, L: Line>(&self, field: &F, plan: &Plan, line: &L) -> Result<(), Fault>
         ensures { result ≡ answer (refusal N.Name.same (F.Field.tables field.now) plan.now (rack_of self.now (L.Line.row line.now)) to_open) tt }
     {
         same_order(field, plan)?;
-        refuse_unless(!self.opened, Refusal::Open, self.mark as u64)?;
+        self.none_open()?;
         has_slots(plan, line)
     }
 
@@ -74,28 +82,22 @@ impl<'a, N: Name> Register<'a, N> {
         ensures rest { L.Line.kept line.old line.new }
         ensures refused { is_some (refusal N.Name.same (F.Field.tables field.now) plan.now (rack_of self.now (L.Line.row line.old)) (to_tick frame.now.mark name.now)) ≡ true → line.new ≡ line.old }
     {
-        let number = self.card_of(field, plan, line, frame, name)?;
-        drive_word(field, plan, line, number)
+        let code = Code::new(field, plan)?;
+        let number = self.card_of(plan, line, frame, name)?;
+        drive_word(&code, line, number)
     }
 
-    /// The number of the card that a tick drives, after the checks of `tick`.
-    fn card_of<F: Field, L: Line>(
-        &self,
-        field: &F,
-        plan: &Plan,
-        line: &L,
-        frame: &Frame,
-        name: &N,
-    ) -> Result<u32, Fault>
-        ensures { result ≡ answer (refusal N.Name.same (F.Field.tables field.now) plan.now (rack_of self.now (L.Line.row line.now)) (to_tick frame.now.mark name.now)) (number_or_0 (number_of N.Name.same name.now self.now.entries.now)) }
+    /// The number of the card that a tick drives, after the checks of `tick` that follow that of the field.
+    fn card_of<L: Line>(&self, plan: &Plan, line: &L, frame: &Frame, name: &N) -> Result<u32, Fault>
+        ensures { result ≡ answer (tick_refusal N.Name.same plan.now (rack_of self.now (L.Line.row line.now)) frame.now.mark name.now) (number_or_0 (number_of N.Name.same name.now self.now.entries.now)) }
     {
-        same_order(field, plan)?;
         self.bears(frame)?;
         has_slots(plan, line)?;
+        // Apart as in `strike`, by the same rule.
         let Some(number) = self.number_of(name) else {
             return Err(Fault::new(Refusal::Unknown, 0));
         };
-        refuse_unless(number < plan.cards(), Refusal::Card, number as u64)?;
+        plan.has_word(number)?;
         Ok(number)
     }
 
@@ -113,28 +115,17 @@ impl<'a, N: Name> Register<'a, N> {
 
     /// Closes a frame: none is open then. A frame that bears another mark, or one while none is open, is refused with 14
     /// and its mark, and handed back.
-    pub fn close(&mut self, frame: Frame) -> Result<(), Refused>
+    pub fn close(&mut self, mut frame: Frame) -> Result<(), Refused>
         ensures answer { result ≡ close_answer (close_refusal (rack_of self.old []) frame.mark) frame }
         ensures after { (row : List Bool) → rack_of self.new row ≡ unless (close_refusal (rack_of self.old row) frame.mark) (closed (rack_of self.old row)) (rack_of self.old row) }
     {
-        match self.bears(&frame) {
-            Ok(()) => {
-                let mut frame = frame;
-                frame.spent = true;
-                self.opened = false;
-                Ok(())
-            }
-            Err(fault) => Err(Refused { fault, frame }),
+        if let Err(fault) = self.bears(&frame) {
+            return Err(Refused { fault, frame });
         }
+        frame.spent = true;
+        self.opened = false;
+        Ok(())
     }
-}
-
-/// Accepts a line of the plan's n × q slots; any other is refused with 8 and its slots.
-pub(crate) fn has_slots<L: Line>(plan: &Plan, line: &L) -> Result<(), Fault>
-    ensures { result ≡ answer (line_check plan.now (L.Line.row line.now) None) tt }
-{
-    let slots = line.slots();
-    refuse_unless(slots == plan.slots(), Refusal::Line, slots as u64)
 }
 
 /// Makes a standing slot clear and a clear one stand. A slot past the row is refused with 7 and the slot.
@@ -152,19 +143,15 @@ fn turn_over<L: Line>(line: &mut L, slot: u32) -> Result<(), Fault>
 }
 
 /// Drives the n slots of a number's word.
-fn drive_word<F: Field, L: Line>(
-    field: &F,
-    plan: &Plan,
-    line: &mut L,
-    number: u32,
-) -> Result<(), Fault>
-    requires { ((F.Field.tables field.now).order ≡ plan.now.q) × ((length (L.Line.row line.old) ≡ plan.now.n * plan.now.q) × (number < plan.now.q ^ plan.now.k)) }
+fn drive_word<F: Field, L: Line>(code: &Code<'_, F>, line: &mut L, number: u32) -> Result<(), Fault>
+    requires slots { length (L.Line.row line.old) ≡ code.now.plan.now.n * code.now.plan.now.q }
+    requires card { number < code.now.plan.now.q ^ code.now.plan.now.k }
     ensures answer { result ≡ Ok tt }
-    ensures after { L.Line.row line.new ≡ driven (F.Field.tables field.now) plan.now.k number (L.Line.row line.old) }
+    ensures after { L.Line.row line.new ≡ driven (F.Field.tables code.now.field.now) code.now.plan.now.k number (L.Line.row line.old) }
     ensures rest { L.Line.kept line.old line.new }
 {
-    for place in 0..plan.n() {
-        line.drive(slot(field, plan, number, place)?)?;
+    for place in 0..code.plan.n() {
+        line.drive(code.slot(number, place)?)?;
     }
     Ok(())
 }

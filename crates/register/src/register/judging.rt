@@ -69,13 +69,14 @@ impl<'a, N: Name> Register<'a, N> {
 
     /// The verdict by names, of the verdict before anyone's name is asked and the list as it is then.
     fn with_names(&self, verdict: reader::Verdict, list: &[u32]) -> Verdict
-        requires { (reading_count verdict ≤ length list.now) × (reading_count verdict < 65536) }
+        requires listed { reading_count verdict ≤ length list.now }
+        requires count { reading_count verdict < 65536 }
         ensures { result ≡ with_names verdict (smallest_foreign self.now.entries.now (take (reading_count verdict) list.now)) }
     {
         match verdict {
             reader::Verdict::Overload(count) => Verdict::Overload(count),
             reader::Verdict::Noise(distance) => Verdict::Noise(distance),
-            reader::Verdict::Reading(count) => self.by_names(&list[0..count as usize]),
+            reader::Verdict::Reading(count) => self.by_names(&list[..count as usize]),
         }
     }
 }

@@ -1,6 +1,6 @@
 //! Finding names and numbers.
 ghost use Rattle.std.specs.Prelude.{◌≡◌, ◌<◌, length, IfSome};
-ghost use Rattle.register.specs.Racks.{number_of, enrolled};
+ghost use Rattle.register.specs.Racks.{holds, number_of, enrolled};
 ghost use Rattle.register.specs.Verdicts.{by_names, smallest_foreign};
 
 use crate::register::Register;
@@ -13,23 +13,15 @@ impl<'a, N: Name> Register<'a, N> {
         ensures found { result ≡ number_of N.Name.same name.now self.now.entries.now }
         ensures within { IfSome result (λ number. number < length self.now.entries.now) }
     {
-        let entries = &*self.entries;
-        for number in 0..entries.len() {
-            if let Some(held) = &entries[number] {
-                if held.is_same(name) {
-                    return Some(number as u32);
-                }
-            }
-        }
-        None
+        let number = self.entries.iter().position(|entry| holds(entry, name))?;
+        Some(number as u32)
     }
 
     /// Whether a name is enrolled at a number.
     pub fn is_enrolled(&self, number: u32) -> bool
         ensures { result ≡ enrolled self.now.entries.now number }
     {
-        let entries = &*self.entries;
-        (number as usize) < entries.len() && entries[number as usize].is_some()
+        matches!(self.entries.get(number as usize), Some(Some(_)))
     }
 
     /// The verdict on a reading of some numbers by the names that are enrolled.
@@ -38,14 +30,19 @@ impl<'a, N: Name> Register<'a, N> {
         ensures { result ≡ by_names (smallest_foreign self.now.entries.now numbers.now) (length numbers.now) }
     {
         let count = numbers.len() as u32;
-        for number in numbers {
-            if !self.is_enrolled(*number) {
-                return Verdict::Foreign {
-                    smallest: *number,
-                    count,
-                };
-            }
+        match numbers.iter().find(|number| !self.is_enrolled(**number)) {
+            Some(number) => Verdict::Foreign {
+                smallest: *number,
+                count,
+            },
+            None => Verdict::Named(count),
         }
-        Verdict::Named(count)
     }
+}
+
+/// Whether an entry holds the same name.
+fn holds<N: Name>(entry: &Option<N>, name: &N) -> bool
+    ensures { result ≡ holds N.Name.same name.now entry.now }
+{
+    entry.as_ref().is_some_and(|held| held.is_same(name))
 }

@@ -17,17 +17,21 @@ impl<'a> Register<'a, Extension> {
         frame: &[u8],
     ) -> Register<'a, Extension>
         ensures entries { result.entries.now ≡ map (numbered frame.now) (range_with_len 0 (min (length entries.old) 65536)) }
-        ensures mark { (result.mark ≡ mark) × (result.opened ≡ false) }
+        ensures mark { result.mark ≡ mark }
+        ensures closed { result.opened ≡ false }
     {
-        let count = entries.len().min(65536);
-        let entries = &mut entries[0..count];
-        for number in 0..count {
-            entries[number] = own_number(frame, number as u32);
+        let Register {
+            entries,
+            mark,
+            opened,
+        } = Register::new(entries, mark);
+        for (number, entry) in entries.iter_mut().enumerate() {
+            *entry = own_number(frame, number as u32);
         }
         Register {
             entries,
             mark,
-            opened: false,
+            opened,
         }
     }
 }

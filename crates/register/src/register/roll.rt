@@ -2,6 +2,7 @@
 ghost use Rattle.std.specs.Prelude.{◌≡◌, ◌<◌, min, Bool, false, List, [], length, replicate, None, slice_set};
 ghost use Rattle.faults.specs.Faults.{answer};
 ghost use Rattle.register.specs.Calls.{to_enrol, refusal, left_by, strike_refusal, struck, unless};
+ghost use Rattle.register.specs.Entries.{NamesDiffer};
 ghost use Rattle.register.specs.Racks.{rack_of};
 
 use crate::register::Register;
@@ -15,13 +16,12 @@ impl<'a, N: Name + Drop> Register<'a, N> {
     /// frame open, and keeps the mark.
     pub fn new(entries: &'a mut [Option<N>], mark: u32) -> Register<'a, N>
         ensures entries { result.entries.now ≡ replicate (min (length entries.old) 65536) None }
-        ensures mark { (result.mark ≡ mark) × (result.opened ≡ false) }
+        ensures mark { result.mark ≡ mark }
+        ensures closed { result.opened ≡ false }
     {
         let count = entries.len().min(65536);
-        let entries = &mut entries[0..count];
-        for entry in entries.iter_mut() {
-            *entry = None;
-        }
+        let entries = &mut entries[..count];
+        entries.fill_with(|| None);
         Register {
             entries,
             mark,
@@ -43,8 +43,8 @@ impl<'a, N: Name + Drop> Register<'a, N> {
         ensures after { (row : List Bool) → rack_of self.new row ≡ left_by N.Name.same (F.Field.tables field.now) plan.now (rack_of self.old row) (to_enrol name number) }
     {
         same_order(field, plan)?;
-        refuse_unless(!self.opened, Refusal::Open, self.mark as u64)?;
-        let entries = (*self.entries).len();
+        self.none_open()?;
+        let entries = self.entries.len();
         refuse_unless(
             number < plan.cards() && (number as usize) < entries,
             Refusal::Card,
@@ -64,7 +64,8 @@ impl<'a, N: Name + Drop> Register<'a, N> {
         ensures answer { result ≡ answer (strike_refusal N.Name.same (rack_of self.old []) name.now) tt }
         ensures after { (row : List Bool) → rack_of self.new row ≡ unless (strike_refusal N.Name.same (rack_of self.old row) name.now) (struck N.Name.same (rack_of self.old row) name.now) (rack_of self.old row) }
     {
-        refuse_unless(!self.opened, Refusal::Open, self.mark as u64)?;
+        self.none_open()?;
+        // By a rule of the project `strike` and `tick` take the option of the lookup apart, each for itself.
         let Some(number) = self.number_of(name) else {
             return Err(Fault::new(Refusal::Unknown, 0));
         };
@@ -74,9 +75,11 @@ impl<'a, N: Name + Drop> Register<'a, N> {
 
     /// Puts an entry at a number.
     fn put(&mut self, number: u32, entry: Option<N>)
-        requires { number < length self.old.entries.now }
+        requires within { number < length self.old.entries.now }
+        requires apart { NamesDiffer N.Name.same (slice_set self.old.entries.now number entry) }
         ensures entries { self.new.entries.now ≡ slice_set self.old.entries.now number entry }
-        ensures rest { (self.new.mark ≡ self.old.mark) × (self.new.opened ≡ self.old.opened) }
+        ensures mark { self.new.mark ≡ self.old.mark }
+        ensures opened { self.new.opened ≡ self.old.opened }
     {
         self.entries[number as usize] = entry;
     }

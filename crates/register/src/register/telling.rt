@@ -2,17 +2,16 @@
 ghost use Rattle.std.specs.Prelude.{◌≡◌, length};
 ghost use Rattle.faults.specs.Faults.{answer};
 ghost use Rattle.register.specs.Calls.{text_refusal, list_left, unless};
-ghost use Rattle.register.specs.Texts.{told_line, with_line, listed_count};
+ghost use Rattle.register.specs.Texts.{told_line, with_line};
 
 use crate::register::Register;
-use crate::register::frame_calls::has_slots;
-use crate::text::write_line;
-use crate::verdict::Verdict;
+use crate::text::{LINE_ROOM, Told};
 use faults::{Fault, Refusal, refuse_unless};
 use fields::Field;
 use lines::Line;
 use names::Name;
-use words::{Plan, same_order};
+use reader::ready;
+use words::Plan;
 
 impl<'a, N: Name> Register<'a, N> {
     /// Judges a line and gives the verdict's line of text: a letter, N for named, F for foreign, O for overload or X for
@@ -35,8 +34,9 @@ impl<'a, N: Name> Register<'a, N> {
     {
         may_tell(field, plan, line, list, text)?;
         let verdict = self.judge(field, plan, line, list)?;
-        let count = listed_count(verdict) as usize;
-        Ok(write_line(verdict, &list[0..count], text))
+        let count = verdict.listed_count() as usize;
+        let numbers = &list[..count];
+        Ok(Told { verdict, numbers }.write(text))
     }
 }
 
@@ -50,21 +50,7 @@ fn may_tell<F: Field, L: Line>(
 ) -> Result<(), Fault>
     ensures { result ≡ answer (text_refusal (F.Field.tables field.now) plan.now (L.Line.row line.now) list.now text.now) tt }
 {
-    same_order(field, plan)?;
-    has_slots(plan, line)?;
-    let room = list.len();
-    refuse_unless(plan.d() as usize <= room, Refusal::Room, room as u64)?;
+    ready(field, plan, line, list)?;
     let room = text.len();
-    refuse_unless(256 <= room, Refusal::Room, room as u64)
-}
-
-/// How many numbers a verdict lists.
-fn listed_count(verdict: Verdict) -> u32
-    ensures { result ≡ listed_count verdict }
-{
-    match verdict {
-        Verdict::Overload(_) | Verdict::Noise(_) => 0,
-        Verdict::Foreign { smallest: _, count } => count,
-        Verdict::Named(count) => count,
-    }
+    refuse_unless(LINE_ROOM <= room, Refusal::Room, room as u64)
 }

@@ -1,32 +1,19 @@
--- The entries are searched one by one.
-use Rattle.std.proofs.Common.{length, get_or, None, sym, ◌∙◌}
-use Rattle.register.specs.Racks.{holds}
-use Rattle.register.proofs.Searching.{searched_more, searched_found, held_at, none_at}
+-- The first entry that holds the same name is found, if there is one.
+use Rattle.std.proofs.Common.{◌≡◌, sym, ◌∙◌, rules, tests}
+use Rattle.std.proofs.lemmas.Iterator.{YieldsList-from_slice}
+use Rattle.std.proofs.lemmas.Iterator.Search.{position_from_yields_List}
+use Rattle.register.specs.Racks.{holds, number_of}
+use Rattle.register.proofs.register.Register.number_of.Goals.{After-position}
+use Rattle.register.proofs.register.Register.number_of.Given.{Over}
 use Rattle.register.proofs.register.Register.number_of.Goals as goal
-use Rattle.register.proofs.register.Register.number_of.Goals.{in-Some+else-is_same, in_default}
 
-pub returns-then-is_same : goal.returns-then-is_same
-returns-then-is_same g c =
-    let same = g.N.Name.same in
-    let name = c.args.name.now in
-    let entries = c.args.self.now.entries.now in
-    let number = c.loop-number.number in
-    record {
-      found = sym (searched_found (λ i. holds same name (get_or entries i None)) number (length entries) c.loop-number.invariant
-          (held_at same name c.in-Some.held entries number c.index-entries-number.result c.loop-number-test.true c.index-entries-number.is c.in-Some.is ∙ sym c.if-is_same.ensures)
-          c.loop-number-test.true);
-      within = c.loop-number-test.true;
-    }
+-- what is found is the number of the name
+found : (g : Over) (c : After-position g) → c.position.result ≡ number_of g.N.Name.same c.args.name.now c.args.self.now.entries.now
+found g c =
+    position_from_yields_List (holds g.N.Name.same c.args.name.now) _ _ _ c.position.ensures.ran (YieldsList-from_slice c.args.self.now.entries.now c.iter.ensures.rest) (λ x b q k. search (rules, tests))
 
-pub loop-number-preserved : goal.loop-number-preserved
-loop-number-preserved g c =
-    let same = g.N.Name.same in
-    let name = c.args.name.now in
-    let entries = c.args.self.now.entries.now in
-    let number = c.loop-number.number in
-    searched_more (λ i. holds same name (get_or entries i None)) number c.loop-number.invariant
-    (elim c.match-entries-number.branch [
-      | in-Some+else-is_same w ↦
-          held_at same name w.in-Some.held entries number c.index-entries-number.result c.loop-number-test.true c.index-entries-number.is w.in-Some.is ∙ sym w.if-is_same.ensures
-      | in_default w ↦ none_at same name entries number c.index-entries-number.result c.loop-number-test.true c.index-entries-number.is w.in_default.is
-    ])
+pub returns-in_err-number-clause-found : goal.returns-in_err-number-clause-found
+returns-in_err-number-clause-found g c = c.from_residual.ensures ∙ (sym c.in_err-number.was ∙ found g (goal.at.returns-in_err-number-clause-found g c).After-position)
+
+pub returns-clause-found : goal.returns-clause-found
+returns-clause-found g c = sym c.in_ok-number.was ∙ found g (goal.at.returns-clause-found g c).After-position

@@ -1,52 +1,33 @@
--- No place of a card's word is refused, and each turn drives one more.
-use Rattle.std.proofs.Common.{◌≡◌, ◌*◌, ◌<◌, length, sym, refl, ap, ◌∙◌, arith}
-use Rattle.words.specs.Words.{slot_at}
+-- Each turn drives one more place of the card's word, whose slot lies on the row.
+use Rattle.std.proofs.Common.{◌≡◌, ◌*◌, ◌<◌, length, sym, ap, ◌∙◌, arith}
 use Rattle.frames.proofs.Slots.{slot_accepts}
-use Rattle.register.proofs.Driving.{place_accepts, slot_told, driven_more, driven_all}
+use Rattle.words.specs.Words.{slot_at}
+use Rattle.register.proofs.Driving.{slot_told, driven_more, driven_all}
+use Rattle.register.proofs.register.frame_calls.drive_word.Given.{Over}
+use Rattle.register.proofs.register.frame_calls.drive_word.Goals.{In_ok-slot}
 use Rattle.register.proofs.register.frame_calls.drive_word.Goals as goal
 
-pub returns-in_err-slot : goal.returns-in_err-slot
-returns-in_err-slot g c =
-    let f = g.F.Field.tables c.args.field.now in
-    let plan = c.args.plan.now in
-    let place = c.loop-place.place in
-    absurd (place_accepts f plan c.args.number place (slot_at f plan.k c.args.number place) c.in_err-slot.field-0.0 c.requires.0 c.requires.1.1 (omega (arith, c.loop-place-test.true, c.n-place-end.ensures)) c.in_err-slot.ensures)
+-- the slot of a place, and that it lies on the row
+on_the_row : (g : Over) (c : In_ok-slot g)
+    → (c.in_ok-slot.field-0 ≡ slot_at (g.F.Field.tables c.args.code.now.field.now) c.args.code.now.plan.now.k c.args.number c.loop-place.place) × (c.in_ok-slot.field-0 < length (g.L.Line.row c.loop-place.line))
+on_the_row g c =
+    let told = slot_told (g.F.Field.tables c.args.code.now.field.now) (g.met.F.Field.lawful c.args.code.now.field.now) c.args.code.now.plan.now c.args.number c.loop-place.place c.in_ok-slot.field-0 c.args.code.now.same_order (omega (arith, c.loop-place-test.true, c.n-place-end.ensures)) c.in_ok-slot.ensures in
+    (told.0, omega (arith, told.1, g.L.Line.laws.sized c.args.line.now c.loop-place.line c.loop-place.invariant.0, c.requires.slots))
 
 pub returns-in_err-drive : goal.returns-in_err-drive
 returns-in_err-drive g c =
-    let f = g.F.Field.tables c.args.field.now in
-    let plan = c.args.plan.now in
-    let row = g.L.Line.row c.loop-place.line in
-    let s = c.in_ok-slot.field-0 in
-    let told = slot_told f (g.met.F.Field.lawful c.args.field.now) plan c.args.number c.loop-place.place s c.requires.0 c.in_ok-slot.ensures in
-    let size = g.L.Line.laws.sized c.args.line.now c.loop-place.line c.loop-place.invariant.0 in
-    let within : s < length row = omega (arith, told.1, size, c.requires.1.0) in
-    absurd (slot_accepts (length row) s tt c.in_err-drive.field-0.0 within c.in_err-drive.ensures.answer)
+    absurd (slot_accepts (length (g.L.Line.row c.loop-place.line)) c.in_ok-slot.field-0 tt c.in_err-drive.field-0.0 (on_the_row g (goal.at.returns-in_err-drive g c).In_ok-slot).1 c.in_err-drive.ensures.answer)
 
 pub loop-place-preserved : goal.loop-place-preserved
 loop-place-preserved g c =
-    let f = g.F.Field.tables c.args.field.now in
-    let laws = g.met.F.Field.lawful c.args.field.now in
-    let plan = c.args.plan.now in
     let before = c.loop-place.line in
-    let row = g.L.Line.row before in
-    let s = c.in_ok-slot.field-0 in
-    let told = slot_told f laws plan c.args.number c.loop-place.place s c.requires.0 c.in_ok-slot.ensures in
-    let size = g.L.Line.laws.sized c.args.line.now before c.loop-place.invariant.0 in
-    let within : s < length row = omega (arith, told.1, size, c.requires.1.0) in (
+    let told = on_the_row g (goal.at.loop-place-preserved g c).In_ok-slot in (
       g.L.Line.laws.onward c.args.line.now before c.drive.new.self c.loop-place.invariant.0 c.drive.ensures.rest,
-      rw c.drive.ensures.after (driven_more f laws plan c.args.number c.loop-place.place s (g.L.Line.row c.args.line.now) row c.requires.0 (omega (arith, c.loop-place-test.true, c.n-place-end.ensures)) told.0 within c.loop-place.invariant.1),
+      rw c.drive.ensures.after (driven_more (g.F.Field.tables c.args.code.now.field.now) (g.met.F.Field.lawful c.args.code.now.field.now) c.args.code.now.plan.now c.args.number c.loop-place.place c.in_ok-slot.field-0 (g.L.Line.row c.args.line.now) (g.L.Line.row before) c.args.code.now.same_order (omega (arith, c.loop-place-test.true, c.n-place-end.ensures)) told.0 told.1 c.loop-place.invariant.1),
     )
 
-pub returns : goal.returns
-returns g c =
-    let f = g.F.Field.tables c.args.field.now in
-    let plan = c.args.plan.now in
-    let old = g.L.Line.row c.args.line.now in
+pub returns-clause-after : goal.returns-clause-after
+returns-clause-after g c =
+    let plan = c.args.code.now.plan.now in
     let all : c.loop-place.place ≡ plan.n = omega (arith, c.loop-place-test.false, c.loop-place.auto.place-end, c.n-place-end.ensures) in
-    let size = g.L.Line.laws.sized c.args.line.now c.loop-place.line c.loop-place.invariant.0 in
-    record {
-      answer = refl;
-      after = driven_all f plan c.args.number old (g.L.Line.row c.loop-place.line) c.requires.0 (c.requires.1.0 ∙ ap (λ q. plan.n * q) (sym c.requires.0)) size (rw all at c.loop-place.invariant.1);
-      rest = c.loop-place.invariant.0;
-    }
+    driven_all (g.F.Field.tables c.args.code.now.field.now) plan c.args.number (g.L.Line.row c.args.line.now) (g.L.Line.row c.loop-place.line) c.args.code.now.same_order (c.requires.slots ∙ ap (λ q. plan.n * q) (sym c.args.code.now.same_order)) (g.L.Line.laws.sized c.args.line.now c.loop-place.line c.loop-place.invariant.0) (rw all at c.loop-place.invariant.1)
