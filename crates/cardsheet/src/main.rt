@@ -4,15 +4,17 @@
 //! The program says what the record means, prints a sheet for each card, and says which lines it refused and why.
 #![tactic(auto)]
 
-mod hex;
 mod sheet;
 
-use anyhow::anyhow;
 use faults::Fault;
 use fields::{AnyField, FieldChoice};
 use frames::bytes_for;
-use sheet::{Failure, sheet_of};
+use hex::FromHexError;
+use sheet::{Failure, Sheet, sheet_of};
+use std::alloc::{AllocError, Global};
+use std::fmt;
 use std::io::{BufRead, BufReader};
+use thiserror::Error;
 use words::{NameKind, Plan, PlanRecord};
 
 /// What an accepted plan record says of a house, with its field and its plan.
@@ -23,130 +25,142 @@ struct House {
     plan: Plan,
 }
 
+impl House {
+    /// The house whose record the bytes hold.
+    fn read(bytes: &[u8]) -> Result<House, Fault> {
+        let record = PlanRecord::read(bytes)?;
+        let (field, plan) = record.field_and_plan()?;
+        Ok(House {
+            record,
+            field,
+            plan,
+        })
+    }
+
+    /// The sheet of the card that a line names.
+    fn sheet(&self, alloc: Global, text: &str) -> Result<Sheet, NoSheet> {
+        let Ok(number) = text.parse() else {
+            return Err(NoSheet::NoNumber);
+        };
+        Ok(sheet_of(alloc, &self.field, &self.plan, number)?)
+    }
+
+    /// Prints the sheet of the card that a line names, or why the line is refused, and counts it.
+    fn print_card(
+        &self,
+        rt: &(impl Print + AllocGlobal),
+        text: &str,
+        tally: &mut Tally,
+    ) -> anyhow::Result<()> {
+        println!(rt; "")?;
+        let count = match self.sheet(rt.alloc(), text) {
+            Ok(sheet) => {
+                println!(rt; "{sheet}")?;
+                &mut tally.printed
+            }
+            Err(NoSheet::Failure(memory @ Failure::Memory(_))) => return Err(memory.into()),
+            Err(refusal) => {
+                println!(rt; "\"{text}\" refused: {refusal}")?;
+                &mut tally.refused
+            }
+        };
+        *count = count.saturating_add(1);
+        Ok(())
+    }
+}
+
+impl fmt::Display for House {
+    fn fmt<W: fmt::Write>(&self, f: &mut fmt::Formatter<W>) -> fmt::Result {
+        let kind = match self.record.field {
+            FieldChoice::Prime(_) => "prime",
+            FieldChoice::Binary(_) => "binary",
+        };
+        let names = match self.record.names {
+            NameKind::Extensions => "extension numbers",
+            NameKind::RoomLabels => "room labels",
+        };
+        let plan = &self.plan;
+        let slots = plan.slots();
+        writeln!(f, "  field: {kind}, of order {}", plan.q())?;
+        writeln!(f, "  places of a word: {}", plan.n())?;
+        writeln!(f, "  coefficients of a word: {}", plan.k())?;
+        writeln!(f, "  cards together: {}", plan.d())?;
+        writeln!(f, "  wrong slots borne: {}", plan.e())?;
+        writeln!(f, "  names: {names}")?;
+        writeln!(f, "  cards that there can be: {}", plan.cards())?;
+        write!(f, "  frame: {slots} slots in {} bytes", bytes_for(slots))
+    }
+}
+
+/// Why a line has no sheet.
+#[derive(Debug, Drop, Error)]
+enum NoSheet {
+    /// it holds no number of a card
+    #[error("it is no number of 32 bits")]
+    NoNumber,
+    /// the card has no sheet
+    #[error(transparent)]
+    Failure(#[from] Failure),
+}
+
 /// How many sheets were printed and how many lines were refused.
-#[derive(Clone, Copy)]
+#[derive(Clone, Copy, Default)]
 struct Tally {
     printed: u64,
     refused: u64,
+}
+
+impl fmt::Display for Tally {
+    fn fmt<W: fmt::Write>(&self, f: &mut fmt::Formatter<W>) -> fmt::Result {
+        let Tally { printed, refused } = self;
+        write!(f, "Sheets printed: {printed}. Lines refused: {refused}.")
+    }
 }
 
 fn main(rt: HostRuntime) -> anyhow::Result<()> {
     run(&rt)
 }
 
+/// Reads the record on the first line, and then a card on each further line.
 fn run(rt: &HostRuntime) -> anyhow::Result<()> {
-    let heap = rt.alloc();
-    let mut house = None;
-    let mut tally = Tally {
-        printed: 0,
-        refused: 0,
+    let alloc = rt.alloc();
+    let mut lines = BufReader::new(alloc, rt.stdin())?.lines(alloc);
+    let first = match lines.next() {
+        Some(line) => line?,
+        None => String::new(alloc),
     };
-    for line in BufReader::new(heap, rt.stdin())?.lines(heap) {
-        let line = line?;
-        match house {
-            None => match open_house(rt, line.as_str().trim())? {
-                Some(found) => house = Some(found),
-                None => return Ok(()),
-            },
-            Some(found) => tally = print_card(rt, &found, line.as_str().trim(), tally)?,
-        }
-    }
-    if house.is_none() {
-        let _ = open_house(rt, "")?;
+    let Some(house) = open_house(rt, first.as_str().trim())? else {
         return Ok(());
+    };
+    let mut tally = Tally::default();
+    for line in lines {
+        let line = line?;
+        house.print_card(rt, line.as_str().trim(), &mut tally)?;
     }
-    let printed = tally.printed;
-    let refused = tally.refused;
-    println!(rt; "")?;
-    println!(rt; "Sheets printed: {printed}. Lines refused: {refused}.")?;
+    println!(rt; "\n{tally}")?;
     Ok(())
 }
 
 /// Reads the record and prints what it says, or why it is refused.
-fn open_house(rt: &HostRuntime, text: &str) -> anyhow::Result<Option<House>> {
-    let Some(bytes) = hex::bytes_of(rt.alloc(), text)? else {
-        println!(rt;
-            "Plan record \"{text}\" refused: it is not made of pairs of hexadecimal digits"
-        )?;
-        return Ok(None);
+fn open_house(rt: &(impl Print + AllocGlobal), text: &str) -> anyhow::Result<Option<House>> {
+    let bytes = match hex::decode(rt.alloc(), text) {
+        Ok(bytes) => bytes,
+        Err(FromHexError::OutOfMemory) => return Err(AllocError.into()),
+        Err(_) => {
+            println!(rt;
+                "Plan record \"{text}\" refused: it is not made of pairs of hexadecimal digits"
+            )?;
+            return Ok(None);
+        }
     };
-    match house_of(bytes.as_slice()) {
+    match House::read(bytes.as_slice()) {
         Ok(house) => {
-            println!(rt; "Plan record {text}")?;
-            print_record(rt, &house)?;
+            println!(rt; "Plan record {text}\n{house}")?;
             Ok(Some(house))
         }
         Err(fault) => {
             println!(rt; "Plan record \"{text}\" refused: {fault}")?;
             Ok(None)
         }
-    }
-}
-
-/// The house whose record the bytes hold.
-fn house_of(bytes: &[u8]) -> Result<House, Fault> {
-    let record = PlanRecord::read(bytes)?;
-    let (field, plan) = record.field_and_plan()?;
-    Ok(House {
-        record,
-        field,
-        plan,
-    })
-}
-
-/// Prints in plain words what an accepted record says.
-fn print_record(rt: &HostRuntime, house: &House) -> anyhow::Result<()> {
-    let kind = match house.record.field {
-        FieldChoice::Prime(_) => "prime",
-        FieldChoice::Binary(_) => "binary",
-    };
-    let names = match house.record.names {
-        NameKind::Extensions => "extension numbers",
-        NameKind::RoomLabels => "room labels",
-    };
-    let plan = &house.plan;
-    let slots = plan.slots();
-    println!(rt; "  field: {kind}, of order {}", plan.q())?;
-    println!(rt; "  places of a word: {}", plan.n())?;
-    println!(rt; "  coefficients of a word: {}", plan.k())?;
-    println!(rt; "  cards together: {}", plan.d())?;
-    println!(rt; "  wrong slots borne: {}", plan.e())?;
-    println!(rt; "  names: {names}")?;
-    println!(rt; "  cards that there can be: {}", plan.cards())?;
-    println!(rt; "  frame: {slots} slots in {} bytes", bytes_for(slots))?;
-    Ok(())
-}
-
-/// Prints the sheet of the card that a line names, or why the line is refused, and counts it.
-fn print_card(rt: &HostRuntime, house: &House, text: &str, tally: Tally) -> anyhow::Result<Tally> {
-    println!(rt; "")?;
-    let Ok(number) = text.parse::<u32>() else {
-        println!(rt; "\"{text}\" refused: it is no number of 32 bits")?;
-        return Ok(one_refused(tally));
-    };
-    match sheet_of(rt.alloc(), &house.field, &house.plan, number) {
-        Ok(sheet) => {
-            println!(rt; "{sheet}")?;
-            Ok(one_printed(tally))
-        }
-        Err(Failure::Refused(fault)) => {
-            println!(rt; "\"{text}\" refused: {fault}")?;
-            Ok(one_refused(tally))
-        }
-        Err(Failure::Memory) => Err(anyhow!("no memory for a sheet")),
-    }
-}
-
-fn one_printed(tally: Tally) -> Tally {
-    Tally {
-        printed: tally.printed.saturating_add(1),
-        refused: tally.refused,
-    }
-}
-
-fn one_refused(tally: Tally) -> Tally {
-    Tally {
-        printed: tally.printed,
-        refused: tally.refused.saturating_add(1),
     }
 }

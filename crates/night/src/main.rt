@@ -5,191 +5,123 @@
 //! done and what was read, and prints the statement of units: a frame that names nobody is billed to nobody.
 #![tactic(auto)]
 
+mod ending;
 mod exchange;
 mod statement;
 
-use exchange::{Exchange, Read, exchange_of_the_house, hold_frame, refused_close, slots_of_card};
-use faults::Fault;
+use ending::Ending;
+use exchange::{Deeds, Exchange, Read};
+use fields::Prime;
 use lines::Packed;
-use names::Extension;
 use register::{Register, Verdict};
 use statement::Statement;
+use std::io;
+use words::Plan;
 
 fn main(rt: HostRuntime) -> anyhow::Result<()> {
     run(&rt)
 }
 
 /// Runs the night, and says so where something of it is refused that should not be.
-fn run(rt: &HostRuntime) -> anyhow::Result<()> {
+fn run(rt: &(impl Print + AllocGlobal)) -> anyhow::Result<()> {
+    match play(rt) {
+        Err(Ending::Refused(fault)) => println!(rt; "The night ends early: {fault}")?,
+        other => other?,
+    }
+    Ok(())
+}
+
+/// Plays the night from the evening to the morning.
+fn play(rt: &(impl Print + AllocGlobal)) -> Result<(), Ending> {
     let mut entries = [None; 81];
     let mut annex_entries = [None; 1];
     let mut bytes = [0; 16];
-    let mut register = Register::new(&mut entries, 1968);
+    let field = Prime::new(11)?;
+    let plan = Plan::new(11, 11, 2, 3, 3)?;
+    let register = Register::new(&mut entries, 1968);
     let mut annex = Register::new(&mut annex_entries, 1969);
-    let mut line = Packed::new(&mut bytes, 121);
-    let mut statement = Statement::new();
-    let exchange = match exchange_of_the_house() {
-        Ok(exchange) => exchange,
-        Err(fault) => return stopped(rt, &fault),
+    let mut night = Night {
+        exchange: Exchange::new(field, plan, register, Packed::new(&mut bytes, 121)),
+        statement: Statement::new(rt.alloc()),
     };
     println!(rt;
         "Exchange: prime field of order 11, words of 11 places, 3 cards together, 3 wrong slots borne."
     )?;
-    if let Err(fault) = enrol_house(&exchange, &mut register) {
-        return stopped(rt, &fault);
-    }
+    night.exchange.enrol_house()?;
     println!(rt; "Enrolled: extensions 0 to 80. Extension 0 is the lodge.")?;
-    evening(rt, &exchange, &mut register, &mut line, &mut statement)?;
-    strangers(rt, &exchange, &mut register, &mut line, &mut statement)?;
-    match refused_close(&exchange, &mut register, &mut annex, &mut line) {
-        Ok(Some(fault)) => println!(rt;
+    night.evening(rt)?;
+    night.strangers(rt)?;
+    match night.exchange.refused_close(&mut annex)? {
+        Some(fault) => println!(rt;
             "The annex tries to close a frame of the house: {fault}. The frame is handed back, and the house closes it."
         )?,
-        Ok(None) => println!(rt; "The annex closed a frame of the house.")?,
-        Err(fault) => return stopped(rt, &fault),
+        None => println!(rt; "The annex closed a frame of the house.")?,
     }
-    statement.print(rt)
-}
-
-/// Says that the night ended early, and why.
-fn stopped(rt: &HostRuntime, fault: &Fault) -> anyhow::Result<()> {
-    println!(rt; "The night ends early: {fault}")?;
+    night.statement.print(rt)?;
     Ok(())
 }
 
-/// Enrols extensions 0 to 80 at the numbers of their cards.
-fn enrol_house(exchange: &Exchange, register: &mut Register<'_, Extension>) -> Result<(), Fault> {
-    for number in 0..81u16 {
-        register.enrol(
-            &exchange.field,
-            &exchange.plan,
-            Extension::new(number),
-            number as u32,
-        )?;
-    }
-    Ok(())
+/// The exchange through the night, and the statement of its units.
+#[derive(Drop)]
+struct Night<'a> {
+    exchange: Exchange<'a>,
+    statement: Statement,
 }
 
-/// Frames in which enrolled cards speak: within what is borne, beyond it, and too many at once.
-fn evening(
-    rt: &HostRuntime,
-    exchange: &Exchange,
-    register: &mut Register<'_, Extension>,
-    line: &mut Packed<'_>,
-    statement: &mut Statement,
-) -> anyhow::Result<()> {
-    frame(rt, exchange, register, line, statement, &[], &[])?;
-    frame(rt, exchange, register, line, statement, &[12, 40], &[])?;
-    frame(
-        rt,
-        exchange,
-        register,
-        line,
-        statement,
-        &[7, 80, 12],
-        &[3, 50, 99],
-    )?;
-    frame(rt, exchange, register, line, statement, &[0], &[])?;
-    frame(
-        rt,
-        exchange,
-        register,
-        line,
-        statement,
-        &[],
-        &[5, 20, 60, 100],
-    )?;
-    frame(
-        rt,
-        exchange,
-        register,
-        line,
-        statement,
-        &[1, 2, 3, 4, 5],
-        &[],
-    )
-}
-
-/// A card that is struck and speaks all the same: its slots are knocked, since nobody can tick it.
-fn strangers(
-    rt: &HostRuntime,
-    exchange: &Exchange,
-    register: &mut Register<'_, Extension>,
-    line: &mut Packed<'_>,
-    statement: &mut Statement,
-) -> anyhow::Result<()> {
-    if let Err(fault) = register.strike(&Extension::new(33)) {
-        return stopped(rt, &fault);
+impl<'a> Night<'a> {
+    /// Frames in which enrolled cards speak: within what is borne, beyond it, and too many at once.
+    fn evening(&mut self, rt: &impl Print) -> Result<(), Ending> {
+        self.frame(rt, Deeds::new(&[], &[]))?;
+        self.frame(rt, Deeds::new(&[12, 40], &[]))?;
+        self.frame(rt, Deeds::new(&[7, 80, 12], &[3, 50, 99]))?;
+        self.frame(rt, Deeds::new(&[0], &[]))?;
+        self.frame(rt, Deeds::new(&[], &[5, 20, 60, 100]))?;
+        self.frame(rt, Deeds::new(&[1, 2, 3, 4, 5], &[]))
     }
-    println!(rt; "Struck: extension 33. Its card is still plugged in.")?;
-    let slots = match slots_of_card(exchange, 33) {
-        Ok(slots) => slots,
-        Err(fault) => return stopped(rt, &fault),
-    };
-    frame(rt, exchange, register, line, statement, &[33], &[])?;
-    frame(rt, exchange, register, line, statement, &[40], &slots)
-}
 
-/// Holds a frame, says what was done and read, and bills it.
-fn frame(
-    rt: &HostRuntime,
-    exchange: &Exchange,
-    register: &mut Register<'_, Extension>,
-    line: &mut Packed<'_>,
-    statement: &mut Statement,
-    ticked: &[u16],
-    knocked: &[u32],
-) -> anyhow::Result<()> {
-    let number = statement.next_frame();
-    print!(rt; "Frame {number}. Ticked:")?;
-    for extension in ticked {
-        let extension = *extension;
-        print!(rt; " {extension}")?;
+    /// A card that is struck and speaks all the same: its slots are knocked, since nobody can tick it.
+    fn strangers(&mut self, rt: &impl Print) -> Result<(), Ending> {
+        self.exchange.strike(33)?;
+        println!(rt; "Struck: extension 33. Its card is still plugged in.")?;
+        let slots = self.exchange.slots_of_card(33)?;
+        self.frame(rt, Deeds::new(&[33], &[]))?;
+        self.frame(rt, Deeds::new(&[40], &slots))
     }
-    let knocks = knocked.len();
-    println!(rt; ". Slots knocked: {knocks}.")?;
-    match hold_frame(exchange, register, line, ticked, knocked) {
-        Ok(read) => bill(rt, &read, statement),
-        Err(fault) => {
-            println!(rt; "  Refused: {fault}.")?;
-            Ok(())
+
+    /// Holds a frame, says what was done and read, and bills it.
+    fn frame(&mut self, rt: &impl Print, deeds: Deeds<'_>) -> Result<(), Ending> {
+        let number = self.statement.next_frame();
+        println!(rt; "Frame {number}. {deeds}")?;
+        match self.exchange.hold_frame(deeds) {
+            Ok(read) => {
+                tell(rt, &read)?;
+                self.statement.enter(&read)?;
+            }
+            Err(fault) => println!(rt; "  Refused: {fault}.")?,
         }
+        Ok(())
     }
 }
 
-/// Says what was read in a frame, and bills the cards that it names.
-fn bill(rt: &HostRuntime, read: &Read, statement: &mut Statement) -> anyhow::Result<()> {
+/// Says what was read in a frame, and who is billed.
+fn tell(rt: &impl Print, read: &Read) -> io::Result<()> {
     match read.verdict {
-        Verdict::Named(0) => {
-            println!(rt; "  Named, 0 cards. Nobody is billed.")?;
-            statement.bill_nobody(read.verdict);
-        }
+        Verdict::Named(0) => println!(rt; "  Named, 0 cards. Nobody is billed."),
         Verdict::Named(count) => {
-            let named = &read.list[0..count.min(3) as usize];
             print!(rt; "  Named, cards: {count}. A unit is billed to")?;
-            for number in named {
-                let number = *number;
+            for number in &read.named {
                 print!(rt; " {number}")?;
             }
-            println!(rt; ".")?;
-            statement.bill(named);
+            println!(rt; ".")
         }
-        Verdict::Foreign { smallest, count } => {
-            println!(rt;
-                "  Foreign, cards: {count}. Number {smallest} is not enrolled. Nobody is billed."
-            )?;
-            statement.bill_nobody(read.verdict);
-        }
+        Verdict::Foreign { smallest, count } => println!(rt;
+            "  Foreign, cards: {count}. Number {smallest} is not enrolled. Nobody is billed."
+        ),
         Verdict::Overload(count) => {
-            println!(rt; "  Overload, covered words: {count}. Nobody is billed.")?;
-            statement.bill_nobody(read.verdict);
+            println!(rt; "  Overload, covered words: {count}. Nobody is billed.")
         }
-        Verdict::Noise(distance) => {
-            println!(rt;
-                "  Noise, distance: {distance}. No cards explain the line. Nobody is billed."
-            )?;
-            statement.bill_nobody(read.verdict);
-        }
+        Verdict::Noise(distance) => println!(rt;
+            "  Noise, distance: {distance}. No cards explain the line. Nobody is billed."
+        ),
     }
-    Ok(())
 }

@@ -1,5 +1,8 @@
 //! The statement of units.
+use crate::exchange::Read;
 use register::Verdict;
+use std::alloc::{AllocError, Global};
+use std::{fmt, io};
 
 /// A frame that names nobody, and what it said.
 #[derive(Clone, Copy)]
@@ -8,85 +11,71 @@ struct Unbilled {
     verdict: Verdict,
 }
 
+impl fmt::Display for Unbilled {
+    fn fmt<W: fmt::Write>(&self, f: &mut fmt::Formatter<W>) -> fmt::Result {
+        let frame = self.frame;
+        let why = match self.verdict {
+            Verdict::Named(_) => "nobody spoke",
+            Verdict::Foreign { .. } => "a card that is not enrolled",
+            Verdict::Overload(_) => "too many cards at once",
+            Verdict::Noise(_) => "no cards explain the line",
+        };
+        write!(f, "frame {frame}: {why}")
+    }
+}
+
 /// The units of each extension, and the frames that name nobody.
-#[derive(Clone, Copy)]
+#[derive(Drop)]
 pub(crate) struct Statement {
     units: [u32; 81],
     frames: u32,
-    unbilled: [Option<Unbilled>; 16],
+    unbilled: Vec<Unbilled>,
 }
 
 impl Statement {
     /// A statement without any unit.
-    pub(crate) fn new() -> Statement {
+    pub(crate) fn new(alloc: Global) -> Statement {
         Statement {
             units: [0; 81],
             frames: 0,
-            unbilled: [None; 16],
+            unbilled: Vec::new(alloc),
         }
     }
 
     /// Counts a frame, and answers its number.
     pub(crate) fn next_frame(&mut self) -> u32 {
-        if let Some(next) = self.frames.checked_add(1) {
-            self.frames = next;
-        }
+        self.frames = self.frames.saturating_add(1);
         self.frames
     }
 
-    /// Bills a unit to each of some extensions.
-    pub(crate) fn bill(&mut self, numbers: &[u32]) {
-        for number in numbers {
-            let number = *number as usize;
-            if number < 81 {
-                if let Some(more) = self.units[number].checked_add(1) {
-                    self.units[number] = more;
-                }
-            }
+    /// Bills a unit to each card that the frame at hand names, or notes that it is billed to nobody.
+    pub(crate) fn enter(&mut self, read: &Read) -> Result<(), AllocError> {
+        if read.named.is_empty() {
+            self.unbilled.push(Unbilled {
+                frame: self.frames,
+                verdict: read.verdict,
+            })?;
         }
-    }
-
-    /// Notes that the frame at hand is billed to nobody.
-    pub(crate) fn bill_nobody(&mut self, verdict: Verdict) {
-        for place in 0..16 {
-            if self.unbilled[place].is_none() {
-                self.unbilled[place] = Some(Unbilled {
-                    frame: self.frames,
-                    verdict,
-                });
-                return;
-            }
-        }
-    }
-
-    /// Prints the units by extension, and the frames that are billed to nobody.
-    pub(crate) fn print(&self, rt: &HostRuntime) -> anyhow::Result<()> {
-        println!(rt; "")?;
-        println!(rt; "Statement of units")?;
-        for number in 0..81 {
-            let units = self.units[number];
-            if units > 0 {
-                println!(rt; "  extension {number}: {units}")?;
-            }
-        }
-        println!(rt; "Billed to nobody")?;
-        for unbilled in self.unbilled {
-            if let Some(noted) = unbilled {
-                let frame = noted.frame;
-                let why = reason(noted.verdict);
-                println!(rt; "  frame {frame}: {why}")?;
+        for number in &read.named {
+            if let Some(units) = self.units.get_mut(*number as usize) {
+                *units = units.saturating_add(1);
             }
         }
         Ok(())
     }
-}
 
-/// Why a frame is billed to nobody.
-fn reason(verdict: Verdict) -> &'static str {
-    match verdict {
-        Verdict::Named(_) => "nobody spoke",
-        Verdict::Foreign { .. } => "a card that is not enrolled",
-        Verdict::Overload(_) => "too many cards at once",
-        Verdict::Noise(_) => "no cards explain the line",
+    /// Prints the units by extension, and the frames that are billed to nobody.
+    pub(crate) fn print(&self, rt: &impl Print) -> io::Result<()> {
+        println!(rt; "\nStatement of units")?;
+        for (number, units) in self.units.iter().enumerate() {
+            if *units > 0 {
+                println!(rt; "  extension {number}: {units}")?;
+            }
+        }
+        println!(rt; "Billed to nobody")?;
+        for unbilled in &self.unbilled {
+            println!(rt; "  {unbilled}")?;
+        }
+        Ok(())
     }
 }
