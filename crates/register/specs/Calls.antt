@@ -4,7 +4,7 @@ use Rattle.faults.specs.Faults.{fault, check}
 use Rattle.faults.specs.declared.fault.Fault.{Fault}
 use Rattle.faults.specs.declared.refusal.Refusal.TheVariants.{Slot, Card, Taken, Enrolled, Unknown, Open, Mark, Room}
 use Rattle.fields.specs.Lawful.{Tables}
-use Rattle.words.specs.Calls.{order_check}
+use Rattle.words.specs.Calls.{order_check, number_check}
 use Rattle.words.specs.declared.plan.Plan.{Plan}
 use Rattle.reader.specs.Calls.{line_check, room_check, reading_refusal}
 use Rattle.reader.specs.Verdicts.{listed}
@@ -58,7 +58,7 @@ close_refusal s mark = mark_check s mark None
 -- what a tick refuses once its field is of the plan's order
 abbrev pub tick_refusal : {N : Type 0} → (N → N → Bool) → Plan → Rack N → ℕ → N → Option Fault
 tick_refusal same p s mark name =
-    mark_check s mark (line_check p s.row (name_known (number_of same name s.entries) (λ number. check (nat_lt number (p.q ^ p.k)) (fault Card number) None)))
+    mark_check s mark (line_check p s.row (name_known (number_of same name s.entries) (λ number. number_check p number None)))
 
 -- what a call refuses, its checks in order
 abbrev pub refusal : {N : Type 0} → (N → N → Bool) → Tables → Plan → Rack N → Call N → Option Fault
