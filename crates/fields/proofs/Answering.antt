@@ -18,11 +18,11 @@ use Rattle.fields.specs.Searching.{the_one_is}
 use Rattle.std.proofs.lemmas.Bool.Decides.{nat_tests}
 
 -- an accepted index is the one handed in, and an element
-element_ok : (q a v : ℕ) → Ok v ≡ element_answer q a → (v ≡ a) × (a < q)
+pub element_ok : (q a v : ℕ) → Ok v ≡ element_answer q a → (v ≡ a) × (a < q)
 element_ok q a v e = (grind (arith, nat_tests), grind (arith, nat_tests))
 
 -- the answer of a table at two elements
-table_ok : (q : ℕ) (table : ℕ → ℕ → ℕ) (a b : ℕ) → a < q → b < q → table_answer q table a b ≡ Ok (table a b)
+pub table_ok : (q : ℕ) (table : ℕ → ℕ → ℕ) (a b : ℕ) → a < q → b < q → table_answer q table a b ≡ Ok (table a b)
 table_ok q table a b ha hb = grind (arith, nat_tests)
 
 module _ (f : Tables) (laws : Lawful f) where
@@ -35,27 +35,28 @@ module _ (f : Tables) (laws : Lawful f) where
   inverse_is a v ha hv e = the_one_is (λ b. eqb (f.times a b) 1) f.order v hv (eq-eqb _ 1 e) (λ c hc p. one_inverse f laws a c v ha hc hv (eqb-true _ 1 p) e)
 
   -- what adds up with an accepted index to 0 is the negative that is answered
-  negative_answered : (a a' v : ℕ) → Ok a' ≡ element_answer f.order a → v < f.order → f.plus a' v ≡ 0 → Ok v ≡ negative_answer f a
+  pub negative_answered : (a a' v : ℕ) → Ok a' ≡ element_answer f.order a → v < f.order → (a' < f.order → f.plus a' v ≡ 0) → Ok v ≡ negative_answer f a
   negative_answered a a' v given hv e =
       let known = element_ok f.order a a' given in
-      let is = negative_is a' v (omega (arith, known.0, known.1)) hv e in
+      let below : a' < f.order = omega (arith, known.0, known.1) in
+      let is = negative_is a' v below hv (e below) in
       grind (arith, nat_tests)
 
   -- where each element is its own negative, an element is the negative that is answered
-  own_negative_answered : ((a : ℕ) → a < f.order → f.plus a a ≡ 0) → (a : ℕ) → element_answer f.order a ≡ negative_answer f a
+  pub own_negative_answered : ((a : ℕ) → a < f.order → f.plus a a ≡ 0) → (a : ℕ) → element_answer f.order a ≡ negative_answer f a
   own_negative_answered own a =
       let is : a < f.order → a ≡ negative_of f a = λ below. negative_is a a below below (own a below) in
       grind (arith, nat_tests)
 
   -- what multiplies with a to 1 is the inverse that is answered
-  inverse_answered : (a v : ℕ) → a < f.order → v < f.order → f.times a v ≡ 1 → Ok v ≡ inverse_answer f a
+  pub inverse_answered : (a v : ℕ) → a < f.order → v < f.order → f.times a v ≡ 1 → Ok v ≡ inverse_answer f a
   inverse_answered a v ha hv e =
       let is = inverse_is a v ha hv e in
       let nil = zero_absorbs_left f laws v hv in
       grind (arith, nat_tests)
 
   -- where no product of a with an element but 0 is 1, the inverse is refused
-  inverse_missing : (a : ℕ) → a < f.order → ((b : ℕ) → 0 < b → b < f.order → f.times a b ≡ 1 → ⊥) → Err (fault Element a) ≡ inverse_answer f a
+  pub inverse_missing : (a : ℕ) → a < f.order → ((b : ℕ) → 0 < b → b < f.order → f.times a b ≡ 1 → ⊥) → Err (fault Element a) ≡ inverse_answer f a
   inverse_missing a ha none = elim (cases_eq a 0) [
     | inl same ↦ grind (arith, nat_tests)
     | inr other ↦
@@ -102,14 +103,14 @@ pub prime_negative : (p : ℕ) → makes_prime_field p ≡ true → (a a' : ℕ)
 prime_negative p ok a a' given other =
     let known = element_ok p a a' given in
     let whole : a' + (p - a') ≡ p = omega arith in
-    negative_answered (prime_tables p) (prime_laws p ok) a a' (p - a') given (omega arith) (ap (λ x. x % p) whole ∙ mod_self p)
+    negative_answered (prime_tables p) (prime_laws p ok) a a' (p - a') given (omega arith) (λ _. ap (λ x. x % p) whole ∙ mod_self p)
 
 -- and the negative of 0 is 0
 pub prime_negative_zero : (p : ℕ) → makes_prime_field p ≡ true → (a a' : ℕ) → Ok a' ≡ element_answer p a → a' ≡ 0 → Ok 0 ≡ negative_answer (prime_tables p) a
 prime_negative_zero p ok a a' given nil =
     let laws = prime_laws p ok in
     let sum : a' + 0 ≡ 0 = omega arith in
-    negative_answered (prime_tables p) laws a a' 0 given (omega (arith, laws.one_is_an_element)) (ap (λ x. x % p) sum ∙ zero-mod p)
+    negative_answered (prime_tables p) laws a a' 0 given (omega (arith, laws.one_is_an_element)) (λ _. ap (λ x. x % p) sum ∙ zero-mod p)
 
 -- in a binary field each element is its own negative
 pub binary_negative : (m modulus : ℕ) → makes_binary_field m modulus ≡ true → (a : ℕ) → element_answer (2 ^ m) a ≡ negative_answer (binary_tables m modulus) a

@@ -1,15 +1,43 @@
 -- The prime fields are lawful. Assumes nothing.
-use Rattle.std.specs.Prelude.{◌≡◌, ℕ, zero, suc, ◌+◌, ◌-◌, ◌*◌, ◌%◌, ◌<◌, ◌≤◌, Bool, true, false, nat_eq, refl}
-use Rattle.std.proofs.Common.{sym, ap, ◌∙◌, add_comm, add_assoc, mul_comm, mul_assoc, mul-add, mod-lt, mod-eq_of_lt, zero-add, one-mul, arith}
+use Rattle.std.specs.Prelude.{◌≡◌, ℕ, zero, suc, ◌+◌, ◌-◌, ◌*◌, ◌%◌, ◌<◌, ◌≤◌, Bool, true, false, not, ◌==◌, ◌≢◌, length, get_or, nat_eq, nat_le, refl}
+use Rattle.std.specs.List.{range_with_len}
+use Rattle.std.proofs.Common.{sym, ap, ◌∙◌, inl, inr, add_comm, add_assoc, mul_comm, mul_assoc, mul-add, mod-lt, mod-eq_of_lt, zero-add, one-mul, arith}
 use Rattle.std.proofs.Math.Nat.{add-mod-mod, mod-add-mod, mod_self}
 use Rattle.std.proofs.lemmas.Nat.{mul-mod_first, mul-mod_second}
 use Rattle.std.proofs.lemmas.Bool.Decides.{nat_tests}
-use Rattle.std.proofs.lemmas.Bool.{eqb-true}
+use Rattle.std.proofs.lemmas.Bool.{and_from, and_left, and_right, eq-eqb, ne_eqb, eqb-true, cases_Bool, not_from_true, not_from_false}
+use Rattle.std.proofs.lemmas.List.FromFn.{length-range_with_len, get_or-range_with_len}
+use Rattle.std.proofs.lemmas.List.Folds.{list_all_at}
+use Rattle.std.proofs.lemmas.List.Sums.{list_all-from_AllPass}
 use Rattle.fields.specs.Answers.{the_one, inverse_of}
 use Rattle.fields.specs.Lawful.{Lawful}
 use Rattle.fields.specs.Polynomials.{all_below}
 use Rattle.fields.specs.Kinds.{prime, makes_prime_field, prime_tables}
 use Rattle.fields.specs.Searching.{all_below_at}
+
+-- a number that divides p, other than 1 and p, shows that p is no prime
+pub divided : (p d : ℕ) → 2 ≤ d → d < p → p % d ≡ 0 → false ≡ prime p
+unfolding prime
+divided p d large small e =
+    let found : get_or (range_with_len 2 (p - 2)) (d - 2) 0 ≡ d = omega (arith, get_or-range_with_len 2 (p - 2) (d - 2) 0 (omega arith)) in
+    let fails : not (p % get_or (range_with_len 2 (p - 2)) (d - 2) 0 == 0) ≡ false = not_from_true _ (eq-eqb _ 0 (rw found e)) in
+    sym (and_right (nat_le 2 p) _ (list_all_at (λ k. not (p % k == 0)) (range_with_len 2 (p - 2)) (d - 2) 0 (omega (arith, length-range_with_len 2 (p - 2))) fails))
+
+-- where no number from 2 to p - 1 divides p, p is a prime if it is at least 2
+pub undivided : (p : ℕ) → ((k : ℕ) → k + 2 < p → p % (k + 2) ≢ 0) → nat_le 2 p ≡ prime p
+unfolding prime
+undivided p none =
+    let every = list_all-from_AllPass (λ d. not (p % d == 0)) (range_with_len 2 (p - 2)) passes in
+    elim (cases_Bool (nat_le 2 p)) [
+      | inl yes' ↦ yes' ∙ sym (and_from (nat_le 2 p) _ yes' every)
+      | inr no' ↦ no' ∙ sym (and_left (nat_le 2 p) _ no')
+    ]
+  where
+    passes : (k d : ℕ) → k < length (range_with_len 2 (p - 2)) → not (p % get_or (range_with_len 2 (p - 2)) k d == 0) ≡ true
+    passes k d h =
+        let within : k < p - 2 = omega (arith, length-range_with_len 2 (p - 2)) in
+        let found : get_or (range_with_len 2 (p - 2)) k d ≡ k + 2 = omega (arith, get_or-range_with_len 2 (p - 2) k d within) in
+        not_from_false _ (ne_eqb _ 0 (rw found (none k (omega arith))))
 
 -- whether every element of the prime field but 0 has an inverse
 inverts : ℕ → Bool

@@ -21,6 +21,12 @@ unfolding total
 total_same f g zero h = refl
 total_same f g (suc n) h = omega (arith, total_same f g n (λ i b. h i (omega arith)), h n (omega arith))
 
+-- the sum of the sum of two functions is the sum of their sums
+pub total_plus : (f g : ℕ → ℕ) (n : ℕ) → total (λ i. f i + g i) n ≡ total f n + total g n
+unfolding total
+total_plus f g zero = refl
+total_plus f g (suc n) = omega (arith, total_plus f g n)
+
 -- the sum of a constant
 pub total_constant : (c n : ℕ) → total (λ i. c) n ≡ n * c
 unfolding total
@@ -75,6 +81,13 @@ unfolding count
 count_none f zero h = refl
 count_none f (suc n) h =
     omega (arith, count_none f n (λ i b. h i (omega arith)), ap one (h n (omega arith)))
+
+-- a test that every number passes has its bound for a count
+pub count_every : (f : ℕ → Bool) (n : ℕ) → ((i : ℕ) → i < n → f i ≡ true) → count f n ≡ n
+unfolding count
+count_every f zero h = refl
+count_every f (suc n) h =
+    omega (arith, count_every f n (λ i b. h i (omega arith)), ap one (h n (omega arith)))
 
 -- a number that passes makes the count positive
 pub count_some : (f : ℕ → Bool) (n i : ℕ) → i < n → f i ≡ true → 0 < count f n

@@ -31,10 +31,9 @@ over_at found n test s h =
     let p = over_within found n test s h in
     ap (λ row. get_or row s false) (cond-true (eqb found n) _ _ (eq-eqb found n p.0)) ∙ get_or-map-range_with_len test 0 n s s false p.1 (omega arith)
 
--- and has one slot written where the line is as long as before, and the test tells the same of every other slot
-pub over_set : (found found' n : ℕ) (f g : ℕ → Bool) (s : ℕ) (b : Bool) → s < length (row_over found n f) → found' ≡ found → g s ≡ b
+-- and has one slot written where the test tells the same of every other slot
+pub over_set : (found found' n : ℕ) (f g : ℕ → Bool) (s : ℕ) (b : Bool) → found ≡ n → found' ≡ n → (s < n → g s ≡ b)
     → ((i : ℕ) → i < n → (i ≡ s → ⊥) → g i ≡ f i) → row_over found' n g ≡ set (row_over found n f) s b
-over_set found found' n f g s b h size here others =
-    let same = (over_within found n f s h).0 in
-    cond-true (eqb found' n) _ _ (eq-eqb found' n (size ∙ same)) ∙ set_counted f g n s b (λ _. here) others
+over_set found found' n f g s b same same' here others =
+    cond-true (eqb found' n) _ _ (eq-eqb found' n same') ∙ set_counted f g n s b here others
     ∙ ap (λ row. set row s b) (sym (cond-true (eqb found n) _ _ (eq-eqb found n same)))

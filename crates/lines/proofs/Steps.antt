@@ -41,8 +41,8 @@ stride_set a n below below' s b found e h =
     let p = over_within (length below) n _ s h in
     let q = stride_facts a n s found p.1 in
     rw e
-    (over_set (length below) (length (set below (stride_place a n s) b)) n _ _ s b h (length-set below (stride_place a n s) b)
-    (get_or-set_same below (stride_place a n s) b false (place_below a n below s h))
+    (over_set (length below) (length (set below (stride_place a n s) b)) n _ _ s b p.0 (length-set below (stride_place a n s) b ∙ p.0)
+    (λ _. get_or-set_same below (stride_place a n s) b false (place_below a n below s h))
     (λ i within other. get_or-set_other below (stride_place a n s) (stride_place a n i) b false (λ same. steps_apart a n i s q.0 q.2 within p.1 other same)))
 
 -- a slot stands as the slot below

@@ -118,6 +118,12 @@ module _ (f : Tables) (l : Lawful f) where
   pub negative_adds : (a : ℕ) → a < f.order → f.plus a (negative_of f a) ≡ 0
   negative_adds a ha = (partners f l a (negative_of f a) ha (negative_below f l a ha)).negative_back refl
 
+  -- the lowest coefficient that leads through a slot is an element
+  pub lowest_below : (k high slot : ℕ) → slot / f.order < f.order → lowest f k high slot < f.order
+  lowest_below k high slot hp =
+      l.sums_stay_below (slot % f.order) (negative_of f (base f k high (slot / f.order))) (mod_below slot f.order (zero_is_an_element f l))
+      (negative_below f l (base f k high (slot / f.order)) (base_below k high (slot / f.order) hp))
+
   -- a sum with the negative of an element is c exactly where the element and c add up to the other summand
   taken_over : (b c y : ℕ) → b < f.order → c < f.order → y < f.order → eqb (f.plus y (negative_of f b)) c ≡ eqb (f.plus b c) y
   taken_over b c y hb hc hy = eqb_same (f.plus y m) c (f.plus b c) y there back

@@ -11,7 +11,7 @@ use Rattle.reader.specs.Verdicts.{verdict, is_reading, listed}
 use Rattle.reader.specs.declared.verdict.Verdict.{Verdict}
 use Rattle.reader.specs.declared.verdict.Verdict.TheVariants.{Overload, Noise, Reading}
 use Rattle.reader.proofs.Distances.{differ_symmetric, differ_triangle, outside_row, inside_row, between}
-use Rattle.reader.proofs.Sets.{member, Apart, same_or_apart, kept_set, kept_is_set}
+use Rattle.reader.proofs.Sets.{member, Apart, same_or_apart, kept_set, kept_member, kept_is_set}
 
 -- the verdict on a set of covered words
 abbrev judged : Tables → ℕ → ℕ → ℕ → ℕ → List Bool → List ℕ → Verdict
@@ -76,6 +76,10 @@ read_listed f n k d e row list xs told same =
 -- the covered numbers are a set
 pub cover_set : (f : Tables) (n k e : ℕ) (row : List Bool) → NumberSet (f.order ^ k) (cover f n k e row)
 cover_set f n k e row = kept_set (covered f n k e row) (f.order ^ k)
+
+-- its members are the numbers below q^k whose words are covered
+pub cover_member : (f : Tables) (n k e : ℕ) (row : List Bool) (x : ℕ) → x < f.order ^ k → member (cover f n k e row) x ≡ covered f n k e row x
+cover_member f n k e row x below = kept_member (covered f n k e row) (f.order ^ k) x below
 
 -- where no set of at most d words lies within e slots of a line, the verdict is no reading
 pub none_read : (f : Tables) (n k d e : ℕ) (row : List Bool) → ((xs : List ℕ) → Speakers f k d xs → distance f n k row xs ≤ e → ⊥) → is_reading (verdict f n k d e row) ≡ false

@@ -23,3 +23,7 @@ pub negative_value : (f : Tables) (a v : ℕ) → a < f.order → ◌≡◌ {A =
 negative_value f a v ha e =
     let z : ◌≡◌ {A = Result ℕ Fault} (Ok v) (Ok (negative_of f a)) = e ∙ cond-true (ltb a f.order) _ _ (lt-ltb a f.order ha) in
     cc
+
+-- an accepted value is the one that was told
+pub ok_value : {X : Type 0} (v w : X) → ◌≡◌ {A = Result X Fault} (Ok v) (Ok w) → v ≡ w
+ok_value v w e = cc

@@ -118,6 +118,28 @@ kept_is_set test bound xs s h = kept_same test (member xs) 0 bound (λ z l u. h 
 pub same_members : (bound : ℕ) (xs ys : List ℕ) → NumberSet bound xs → NumberSet bound ys → ((z : ℕ) → z < bound → member xs z ≡ member ys z) → xs ≡ ys
 same_members bound xs ys s t h = sym (set_kept bound xs s) ∙ kept_is_set (member xs) bound ys t h
 
+-- the members of what a test keeps are the numbers below the bound that pass it
+pub kept_member : (test : ℕ → Bool) (bound z : ℕ) → z < bound → member (filter test (range_with_len 0 bound)) z ≡ test z
+kept_member test bound z h = go 0 bound (omega arith) (omega arith)
+  where
+    here : (low n : ℕ) → (b : Bool) → test low ≡ b → z ≡ low → member (cond b (low ∷ filter test (range_with_len (low + 1) n)) (filter test (range_with_len (low + 1) n))) z ≡ test z
+    here low n true t e = or_left (eqb z low) (member (filter test (range_with_len (low + 1) n)) z) (eq-eqb z low e) ∙ sym (ap test e ∙ t)
+    here low n false t e =
+        not_member (low + 1) (low + 1 + n) (filter test (range_with_len (low + 1) n)) z (kept_ascends test (low + 1) n (low + 1 + n) refl) (omega arith) ∙ sym (ap test e ∙ t)
+
+    later : (low n : ℕ) → (b : Bool) → (z ≡ low → ⊥) → member (filter test (range_with_len (low + 1) n)) z ≡ test z
+        → member (cond b (low ∷ filter test (range_with_len (low + 1) n)) (filter test (range_with_len (low + 1) n))) z ≡ test z
+    later low n true d r = ap (λ b. b || member (filter test (range_with_len (low + 1) n)) z) (ne_eqb z low d) ∙ r
+    later low n false d r = r
+
+    go : (low n : ℕ) → low ≤ z → z < low + n → member (filter test (range_with_len low n)) z ≡ test z
+    go low zero l u = absurd (omega arith)
+    go low (suc n) l u =
+        elim (cases_eq z low) [
+          | inl e ↦ here low n (test low) refl e
+          | inr d ↦ later low n (test low) d (go (low + 1) n (omega arith) (omega arith))
+        ]
+
 -- one of two sets has a number below the bound that the other has not
 pub record Apart (bound : ℕ) (xs ys : List ℕ) : Type 0 where
   pub number : ℕ

@@ -12,6 +12,10 @@ use Rattle.register.specs.Entries.{NamesDiffer}
 use Rattle.register.specs.Promises.{OnTheRoll}
 use Rattle.register.specs.Racks.{holds, number_of}
 
+-- nothing is not something
+pub none_or_some : {A : Type 0} (o : Option A) (a : A) → o ≡ None → o ≡ Some a → ⊥
+none_or_some o a p q = let z : ◌≡◌ {A = ℕ} 0 1 = cc in omega arith
+
 -- where no element passes, none stands before the end
 no_position : {X : Type 0} (test : X → Bool) (xs : List X) → position test xs ≡ None → length xs ≤ position_or_len test xs
 no_position test xs e = grind (arith, nat_tests)

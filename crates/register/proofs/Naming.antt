@@ -30,11 +30,11 @@ kept_has test xs x h = (
 )
 
 -- a name at a number after a write is what was written there, or was enrolled at another number
-abbrev WrittenOrKept : {N : Type 0} (entries : List (Option N)) (number : ℕ) (entry : Option N) (i : ℕ) (held : N) → Type 0
+abbrev pub WrittenOrKept : {N : Type 0} (entries : List (Option N)) (number : ℕ) (entry : Option N) (i : ℕ) (held : N) → Type 0
 WrittenOrKept entries number entry i held = ((i ≡ number) × (entry ≡ Some held)) ⊎ ((i ≡ number → ⊥) × (get_or entries i None ≡ Some held))
 
 -- so is every name that is enrolled after a write
-set_cases : {N : Type 0} (entries : List (Option N)) (number : ℕ) (entry : Option N) (i : ℕ) (held : N)
+pub set_cases : {N : Type 0} (entries : List (Option N)) (number : ℕ) (entry : Option N) (i : ℕ) (held : N)
     → get_or (set entries number entry) i None ≡ Some held → WrittenOrKept entries number entry i held
 set_cases entries number entry i held is = elim (cases_eq i number) [
   | inl here ↦ elim (cases_lt number (length entries)) [

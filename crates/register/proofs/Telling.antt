@@ -4,7 +4,7 @@ use Rattle.std.specs.List.{All, AllByRecursion, find}
 use Rattle.std.proofs.lemmas.Nat.{mul-le}
 use Rattle.std.proofs.lemmas.List.Elements.{All-from_recursion, All-weaker, recursion_from_All}
 use Rattle.std.proofs.lemmas.List.{take_at}
-use Rattle.std.proofs.lemmas.Bool.{eqb-true, ltb-false}
+use Rattle.std.proofs.lemmas.Bool.{eqb-true, leb-true, ltb-false}
 use Rattle.faults.specs.Faults.{answer}
 use Rattle.faults.specs.declared.fault.Fault.{Fault}
 use Rattle.faults.proofs.Answers.{accepted}
@@ -131,14 +131,15 @@ module _ (f : Tables) (p : Plan) (row : List Bool) where
             ap (λ m. take m (plan_cover ++ drop (length plan_cover) list)) (named_count (smallest_foreign entries plan_cover) count)
             ∙ take_at plan_cover (drop (length plan_cover) list) count (sym (reading_counts f p row count e))
 
--- what a call has passed that no check refuses: the order of the field, and the checks of a judgement
+-- what a call has passed that no check refuses: the order of the field, the checks of a judgement, and the room of the text
 told_passed : (f : Tables) (p : Plan) (row : List Bool) (list text : List ℕ) → text_refusal f p row list text ≡ None
-    → (f.order ≡ p.q) × (reading_refusal f p row list ≡ None)
+    → (f.order ≡ p.q) × (reading_refusal f p row list ≡ None) × (256 ≤ length text)
 told_passed f p row list text none =
     let c1 = passed (eqb f.order p.q) _ _ none in
     let c2 = passed (eqb (length row) (p.n * p.q)) _ _ c1.1 in
     let c3 = passed (leb p.d (length list)) _ _ c2.1 in
-    (eqb-true f.order p.q c1.0, rw (c1.0, c2.0, c3.0))
+    let c4 = passed (leb 256 (length text)) _ _ c3.1 in
+    (eqb-true f.order p.q c1.0, rw (c1.0, c2.0, c3.0), leb-true 256 (length text) c4.0)
 
 -- what is known of a verdict that is told: no check refuses it, its values and numbers are small, the numbers are few and as
 -- many as are counted, and its line is that of the row
