@@ -1,5 +1,7 @@
 -- What the checks of a plan give, one by one. Assumes nothing.
 use Rattle.std.proofs.Common.{◌≡◌, ℕ, ◌^◌, ◌<◌, ◌≤◌, Bool, true, false, not, leb, is_some, Some, None, Option, refl, arith}
+use Rattle.std.proofs.Math.Nat.{pow-le-pow_left}
+use Rattle.std.proofs.Math.Pow.{pow_mono}
 use Rattle.std.proofs.lemmas.Bool.{and_parts, leb-true, ltb-true, false≢true}
 use Rattle.faults.specs.Faults.{check}
 use Rattle.faults.specs.declared.fault.Fault.{Fault}
@@ -49,3 +51,7 @@ limits q n k d e exists =
       few_words = leb-true (q ^ k) 65536 c5.0;
       far_apart = ltb-true (burden k d e) n c6.0;
     }
+
+-- beyond the 16th every power of a number above 1 is above 65,536
+pub power_large : (q k : ℕ) → 2 ≤ q → 16 < k → 65536 < q ^ k
+power_large q k h large = omega (arith, pow-le-pow_left h k, pow_mono {i = 17} {j = k} large)

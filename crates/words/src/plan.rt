@@ -107,8 +107,14 @@ impl Plan {
 }
 
 /// q to the power of k, where that is at most 65,536.
+#[tactic(auto, using(crate::proofs::Limits::power_large))]
 fn power_within(q: u32, k: u32) -> Option<u32>
+    requires { 2 ≤ q }
     ensures { SomeIff result (q ^ k ≤ 65536) (q ^ k) }
 {
+    // No number above 1 has so small a power beyond the 16th. Without this test a large k costs 32 products and not none.
+    if k > 16 {
+        return None;
+    }
     q.checked_pow(k).filter(|power| *power <= 65536)
 }
