@@ -1,10 +1,11 @@
 -- Gathering into a list, in ascending order and as far as it has room, what is kept of the numbers passed. Assumes nothing.
-use Rattle.std.proofs.Common.{◌≡◌, ℕ, ◌+◌, ◌≤◌, Bool, true, false, cond, List, [], ◌∷◌, ◌++◌, map, length, take, filter, sym, ap, ◌∙◌, ap₂, inl, inr, arith}
+use Rattle.std.proofs.Common.{◌≡◌, ℕ, ◌+◌, ◌-◌, ◌*◌, ◌<◌, ◌≤◌, Bool, true, false, cond, List, [], ◌∷◌, ◌++◌, map, length, take, drop, get_or, filter, sym, ap, ◌∙◌, ap₂, inl, inr, arith}
 use Rattle.std.specs.List.{range_with_len}
 use Rattle.std.proofs.lemmas.List.FromFn.{length-range_with_len, filter_of_map_range_with_len_more}
-use Rattle.std.proofs.lemmas.List.{append-nil, map-id, map_push, length-map, length_push, length-take-le, take_all, take-append-le}
+use Rattle.std.proofs.lemmas.List.{append-nil, map-id, map_push, length-map, length_push, length-take-le, take_all, take-append-le, get_or-take, get_or-drop}
 use Rattle.std.proofs.lemmas.List.Sums.{count_by-le-length, length-filter}
 use Rattle.std.proofs.lemmas.Bool.{cases_lt, cond-true, cond-false}
+use Rattle.std.proofs.lemmas.Nat.{div-mul-add, mod-mul-add}
 use Rattle.reader.specs.Working.{spot_of}
 use Rattle.reader.specs.declared.spot.Spot.{Spot}
 
@@ -74,3 +75,12 @@ spots_yes test q slot spots spot before in' is =
 -- no more spots are listed than slots are passed
 pub spots_few : (test : ℕ → Bool) (q slot : ℕ) (spots : List Spot) → spots ≡ map (spot_of q) (filter test (range_with_len 0 slot)) → length spots ≤ slot
 spots_few test q slot spots e = omega (arith, ap length e, length-map (filter test (range_with_len 0 slot)) (spot_of q), kept_few test slot)
+
+-- the spot of a place and a symbol is that of their slot
+pub spot_at : (q place symbol : ℕ) → symbol < q → ◌≡◌ {A = Spot} (record { place = place; symbol = symbol }) (spot_of q (place * q + symbol))
+spot_at q place symbol h = sym (ap₂ (λ a b. record { place = a; symbol = b }) (div-mul-add place q symbol h) (mod-mul-add place q symbol h))
+
+-- a slot of the row of a place, cut out of all slots
+pub row_slot : (slots : List Bool) (place symbol width q : ℕ) → width ≡ q → symbol < q → get_or slots (place * q + symbol) false ≡ get_or (take (place * width + width - place * width) (drop (place * width) slots)) symbol false
+row_slot slots place symbol width q e h =
+    rw e (sym (get_or-take (place * q + q - place * q) (drop (place * q) slots) symbol false (omega (arith, h)) ∙ get_or-drop (place * q) slots symbol false))

