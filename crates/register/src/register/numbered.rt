@@ -20,18 +20,16 @@ impl<'a> Register<'a, Extension> {
         ensures mark { result.mark ≡ mark }
         ensures closed { result.opened ≡ false }
     {
-        let Register {
-            entries,
-            mark,
-            opened,
-        } = Register::new(entries, mark);
+        // Cut as in `new`, which would go over all entries once before this does.
+        let count = entries.len().min(65536);
+        let entries = &mut entries[..count];
         for (number, entry) in entries.iter_mut().enumerate() {
             *entry = own_number(frame, number as u32);
         }
         Register {
             entries,
             mark,
-            opened,
+            opened: false,
         }
     }
 }
