@@ -4,23 +4,21 @@ ghost use Rattle.frames.specs.Frames.{bytes_for};
 ghost use Rattle.bench.specs.Spares.{is_set, SparesAreClear, TellsFirstSpare};
 
 use crate::input::Input;
+use crate::output::Output;
 use crate::stop::Stop;
 use faults::{Fault, Refusal, refuse_unless};
 use fields::AnyField;
-use frames::{bytes_for, fits, look};
+use frames::{bytes_for, look};
 use lines::{Line, Packed};
 use names::Extension;
 use register::Register;
 use std::io::{Read, Write};
 use words::{Plan, PlanRecord};
 
-/// How many bytes the line of a verdict may need.
-const LINE: usize = 256;
-
 /// Judges every frame of an input under the plan and the register at its front.
 pub(crate) fn judge_all<R: Read, W: Write>(
     input: &mut Input<R>,
-    output: &mut W,
+    output: &mut Output<W>,
 ) -> Result<(), Stop> {
     let (field, plan) = PlanRecord::read(input.take(4)?)?.field_and_plan()?;
     let mut entries = [None; 65536];
@@ -35,7 +33,6 @@ fn take_bits<R: Read>(input: &mut Input<R>, numbers: u32) -> Result<&mut [u8], S
     ensures clear { IfOk result (λ bits. SparesAreClear bits.now numbers) }
 {
     let bits = input.take(bytes_for(numbers) as usize)?;
-    fits(bits, numbers)?;
     clear_behind(bits, numbers)?;
     Ok(bits)
 }
@@ -64,7 +61,7 @@ fn is_set(bits: &[u8], place: u32) -> bool
 /// Writes the verdict's line for each frame up to the end of the input.
 fn judge_frames<R: Read, W: Write>(
     input: &mut Input<R>,
-    output: &mut W,
+    output: &mut Output<W>,
     register: &Register<'_, Extension>,
     field: &AnyField,
     plan: &Plan,
@@ -72,17 +69,14 @@ fn judge_frames<R: Read, W: Write>(
     let slots = plan.slots();
     let size = bytes_for(slots) as usize;
     let mut list = [0u32; 32];
-    let mut text = [0u8; LINE];
     // Every function has to end and a source need not, so the loop is bounded by more frames than any input has.
     for _ in 0..u64::MAX {
-        let frame = input.take(size)?;
-        if frame.is_empty() {
+        if input.is_at_end()? {
             break;
         }
-        fits(frame, slots)?;
-        let line = Packed::new(frame, slots);
-        let count = register.judge_text(field, plan, &line, &mut list, &mut text)?;
-        output.write_all(&text[..count])?;
+        let line = Packed::new(input.take(size)?, slots);
+        let count = register.judge_text(field, plan, &line, &mut list, output.room()?)?;
+        output.gather(count);
     }
     Ok(())
 }

@@ -6,17 +6,16 @@
 //! are refused, or the input ends inside one of them, it writes the letter E and the refusal's number, and stops.
 #![tactic(auto)]
 
+mod buffer;
 mod input;
 mod judging;
+mod output;
 mod stop;
 
 use input::Input;
 use judging::judge_all;
-use std::io::{BufReader, BufWriter, Write};
+use output::Output;
 use stop::Stop;
-
-/// How many bytes are read ahead, and how many are gathered before they are written.
-const PIECE: usize = 65536;
 
 /// Runs the bench, and reports an input or an output that fails.
 fn main(rt: HostRuntime) -> anyhow::Result<()> {
@@ -25,10 +24,8 @@ fn main(rt: HostRuntime) -> anyhow::Result<()> {
 
 /// Judges the frames of the standard input.
 fn run(rt: &HostRuntime) -> anyhow::Result<()> {
-    let alloc = rt.alloc();
-    let source = BufReader::with_capacity(alloc, PIECE, rt.stdin())?;
-    let mut output = BufWriter::with_capacity(alloc, PIECE, rt.stdout())?;
-    let outcome = judge_all(&mut Input::new(alloc, source), &mut output);
+    let mut output = Output::new(rt.stdout());
+    let outcome = judge_all(&mut Input::new(rt.stdin()), &mut output);
     output.flush()?;
     match outcome {
         Err(Stop::Refused(fault)) => println!(rt; "E {}", fault.refusal.number())?,
