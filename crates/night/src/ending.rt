@@ -1,6 +1,5 @@
 //! Why the night ends early.
 use faults::Fault;
-use std::alloc::AllocError;
 use std::io;
 use thiserror::Error;
 
@@ -13,7 +12,4 @@ pub(crate) enum Ending {
     /// the output fails
     #[error(transparent)]
     Broken(#[from] io::Error),
-    /// there is no memory for the statement
-    #[error(transparent)]
-    Memory(#[from(alloc)] AllocError),
 }

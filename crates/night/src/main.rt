@@ -23,7 +23,7 @@ fn main(rt: HostRuntime) -> anyhow::Result<()> {
 }
 
 /// Runs the night, and says so where something of it is refused that should not be.
-fn run(rt: &(impl Print + AllocGlobal)) -> anyhow::Result<()> {
+fn run(rt: &impl Print) -> anyhow::Result<()> {
     match play(rt) {
         Err(Ending::Refused(fault)) => println!(rt; "The night ends early: {fault}")?,
         other => other?,
@@ -32,7 +32,7 @@ fn run(rt: &(impl Print + AllocGlobal)) -> anyhow::Result<()> {
 }
 
 /// Plays the night from the evening to the morning.
-fn play(rt: &(impl Print + AllocGlobal)) -> Result<(), Ending> {
+fn play(rt: &impl Print) -> Result<(), Ending> {
     let mut entries = [None; 81];
     let mut annex_entries = [None; 1];
     let mut bytes = [0; 16];
@@ -42,7 +42,7 @@ fn play(rt: &(impl Print + AllocGlobal)) -> Result<(), Ending> {
     let mut annex = Register::new(&mut annex_entries, 1969);
     let mut night = Night {
         exchange: Exchange::new(field, plan, register, Packed::new(&mut bytes, 121)),
-        statement: Statement::new(rt.alloc()),
+        statement: Statement::new(),
     };
     println!(rt;
         "Exchange: prime field of order 11, words of 11 places, 3 cards together, 3 wrong slots borne."
@@ -95,7 +95,7 @@ impl<'a> Night<'a> {
         match self.exchange.hold_frame(deeds) {
             Ok(read) => {
                 tell(rt, &read)?;
-                self.statement.enter(&read)?;
+                self.statement.enter(&read);
             }
             Err(fault) => println!(rt; "  Refused: {fault}.")?,
         }

@@ -1,7 +1,6 @@
 //! The statement of units.
 use crate::exchange::Read;
 use register::Verdict;
-use std::alloc::{AllocError, Global};
 use std::{fmt, io};
 
 /// A frame that names nobody, and what it said.
@@ -29,16 +28,17 @@ impl fmt::Display for Unbilled {
 pub(crate) struct Statement {
     units: [u32; 81],
     frames: u32,
-    unbilled: Vec<Unbilled>,
+    // Fixed memory, and no list of the heap: a night asks for none, so that want of it cannot end one.
+    unbilled: [Option<Unbilled>; 16],
 }
 
 impl Statement {
     /// A statement without any unit.
-    pub(crate) fn new(alloc: Global) -> Statement {
+    pub(crate) fn new() -> Statement {
         Statement {
             units: [0; 81],
             frames: 0,
-            unbilled: Vec::new(alloc),
+            unbilled: [None; 16],
         }
     }
 
@@ -49,19 +49,26 @@ impl Statement {
     }
 
     /// Bills a unit to each card that the frame at hand names, or notes that it is billed to nobody.
-    pub(crate) fn enter(&mut self, read: &Read) -> Result<(), AllocError> {
+    pub(crate) fn enter(&mut self, read: &Read) {
         if read.named.is_empty() {
-            self.unbilled.push(Unbilled {
-                frame: self.frames,
-                verdict: read.verdict,
-            })?;
+            self.note(read.verdict);
         }
         for number in &read.named {
             if let Some(units) = self.units.get_mut(*number as usize) {
                 *units = units.saturating_add(1);
             }
         }
-        Ok(())
+    }
+
+    /// Notes that the frame at hand is billed to nobody, where there is room.
+    fn note(&mut self, verdict: Verdict) {
+        let frame = self.frames;
+        for noted in self.unbilled.iter_mut() {
+            if noted.is_none() {
+                *noted = Some(Unbilled { frame, verdict });
+                return;
+            }
+        }
     }
 
     /// Prints the units by extension, and the frames that are billed to nobody.
@@ -73,7 +80,7 @@ impl Statement {
             }
         }
         println!(rt; "Billed to nobody")?;
-        for unbilled in &self.unbilled {
+        for unbilled in self.unbilled.iter().flatten() {
             println!(rt; "  {unbilled}")?;
         }
         Ok(())
