@@ -125,11 +125,12 @@ fn main(rt: HostRuntime) -> anyhow::Result<()> {
 fn run(rt: &HostRuntime) -> anyhow::Result<()> {
     let alloc = rt.alloc();
     let mut lines = BufReader::new(alloc, rt.stdin())?.lines(alloc);
-    let first = match lines.next() {
-        Some(line) => line?,
-        None => String::new(alloc),
+    // The first line is let go here, however long it is.
+    let house = match lines.next() {
+        Some(line) => open_house(rt, line?.as_str().trim())?,
+        None => open_house(rt, "")?,
     };
-    let Some(house) = open_house(rt, first.as_str().trim())? else {
+    let Some(house) = house else {
         return Ok(());
     };
     let mut tally = Tally::default();
@@ -143,15 +144,11 @@ fn run(rt: &HostRuntime) -> anyhow::Result<()> {
 
 /// Reads the record and prints what it says, or why it is refused.
 fn open_house(rt: &(impl Print + AllocGlobal), text: &str) -> anyhow::Result<Option<House>> {
-    let bytes = match hex::decode(rt.alloc(), text) {
-        Ok(bytes) => bytes,
-        Err(FromHexError::OutOfMemory) => return Err(AllocError.into()),
-        Err(_) => {
-            println!(rt;
-                "Plan record \"{text}\" refused: it is not made of pairs of hexadecimal digits"
-            )?;
-            return Ok(None);
-        }
+    let Some(bytes) = spelled(rt.alloc(), text)? else {
+        println!(rt;
+            "Plan record \"{text}\" refused: it is not made of pairs of hexadecimal digits"
+        )?;
+        return Ok(None);
     };
     match House::read(bytes.as_slice()) {
         Ok(house) => {
@@ -162,5 +159,18 @@ fn open_house(rt: &(impl Print + AllocGlobal), text: &str) -> anyhow::Result<Opt
             println!(rt; "Plan record \"{text}\" refused: {fault}")?;
             Ok(None)
         }
+    }
+}
+
+/// The bytes that a text spells, two digits each; none where it is not made of such pairs.
+fn spelled(alloc: Global, text: &str) -> Result<Option<Vec<u8>>, AllocError> {
+    // Looked at first, since decoding asks for the memory of all bytes before it looks at a digit.
+    if !text.bytes().all(|digit| digit.is_ascii_hexdigit()) {
+        return Ok(None);
+    }
+    match hex::decode(alloc, text) {
+        Ok(bytes) => Ok(Some(bytes)),
+        Err(FromHexError::OutOfMemory) => Err(AllocError),
+        Err(_) => Ok(None),
     }
 }
