@@ -19,7 +19,8 @@ pub fn bytes_for(slots: u32) -> u32
 pub fn look(frame: &[u8], slot: u32) -> Result<bool, Fault>
     ensures { result ≡ slot_answer (8 * length frame.now) slot (stands frame.now slot) }
 {
-    let (byte, bit) = place_of(slot, frame.len())?;
+    reaches(frame, slot)?;
+    let (byte, bit) = place_of(slot);
     Ok(bit_set(frame[byte], bit))
 }
 
@@ -28,19 +29,26 @@ pub fn put(frame: &mut [u8], slot: u32, standing: bool) -> Result<(), Fault>
     ensures answer { result ≡ slot_answer (8 * length frame.old) slot tt }
     ensures after { frame.new ≡ with_slot frame.old slot standing }
 {
-    let (byte, bit) = place_of(slot, frame.len())?;
+    reaches(frame, slot)?;
+    let (byte, bit) = place_of(slot);
     frame[byte] = with_bit(frame[byte], bit, standing);
     Ok(())
 }
 
-/// The byte of a slot and the slot's bit in it, in a frame of so many bytes. A slot past the last byte is refused with 7
-/// and the slot.
-fn place_of(slot: u32, bytes: usize) -> Result<(usize, u32), Fault>
-    ensures { result ≡ slot_answer (8 * bytes) slot (slot / 8, 7 - slot % 8) }
+/// Accepts a slot that a frame reaches. A slot past the last byte is refused with 7 and the slot.
+fn reaches(frame: &[u8], slot: u32) -> Result<(), Fault>
+    ensures { result ≡ slot_answer (8 * length frame.now) slot tt }
 {
-    let byte = (slot / 8) as usize;
-    refuse_unless(byte < bytes, Refusal::Slot, slot as u64)?;
-    Ok((byte, 7 - slot % 8))
+    let (byte, _) = place_of(slot);
+    refuse_unless(byte < frame.len(), Refusal::Slot, slot as u64)
+}
+
+/// The byte of a slot and the slot's bit in it.
+// A check that answers with them was tried: a look at a slot took four instructions more.
+fn place_of(slot: u32) -> (usize, u32)
+    ensures { result ≡ (slot / 8, 7 - slot % 8) }
+{
+    ((slot / 8) as usize, 7 - slot % 8)
 }
 
 /// Whether one bit of a byte is set.

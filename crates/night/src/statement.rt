@@ -28,7 +28,7 @@ impl fmt::Display for Unbilled {
 pub(crate) struct Statement {
     units: [u32; 81],
     frames: u32,
-    // Fixed memory, and no list of the heap: a night asks for none, so that want of it cannot end one.
+    // An array and no `Vec`: a night takes no memory from the heap, so none can be refused to it.
     unbilled: [Option<Unbilled>; 16],
 }
 

@@ -1,5 +1,5 @@
 //! The row of a line's slots, and what it shows.
-ghost use Rattle.std.specs.Prelude.{◌≡◌, ◌*◌, ◌^◌, ◌<◌, ◌≤◌, map, length, take, count_by, IsOk, IfOk};
+ghost use Rattle.std.specs.Prelude.{◌≡◌, ◌*◌, ◌^◌, ◌<◌, ◌≤◌, map, length, take, sum_by, cond, IsOk, IfOk};
 ghost use Rattle.std.specs.List.{AllByRecursion, zip};
 ghost use Rattle.frames.specs.Frames.{differ};
 ghost use Rattle.reader.specs.Distances.{cover, distance};
@@ -99,12 +99,13 @@ impl<'r, 'a, F: Field> Row<'r, 'a, F> {
 /// In how many slots a row differs from some marks.
 fn differing(row: &[bool], marks: &[bool]) -> u32
     requires { length row.now ≤ 4096 }
-    ensures { result ≡ count_by (λ slot. differ slot.0 slot.1) (zip row.now marks.now) }
+    ensures { result ≡ sum_by (λ slot. cond (differ slot.0 slot.1) 1 0) (zip row.now marks.now) }
 {
+    // Summed, which the compiler does for many slots at once; filtering and counting was tried, and it did not.
     row.iter()
         .zip(marks)
-        .filter(|(stands, marked)| *stands != *marked)
-        .count() as u32
+        .map(|(stands, marked)| u32::from(*stands != *marked))
+        .sum()
 }
 
 /// Which slots of a line stand. It looks at each slot once.

@@ -112,7 +112,7 @@ fn power_within(q: u32, k: u32) -> Option<u32>
     requires { 2 ≤ q }
     ensures { SomeIff result (q ^ k ≤ 65536) (q ^ k) }
 {
-    // No number above 1 has so small a power beyond the 16th. Without this test a large k costs 32 products and not none.
+    // No number above 1 has so small a power beyond the 16th. Without this test a large k is multiplied out in vain.
     if k > 16 {
         return None;
     }

@@ -20,7 +20,7 @@ impl<'a> Register<'a, Extension> {
         ensures mark { result.mark ≡ mark }
         ensures closed { result.opened ≡ false }
     {
-        // Cut as in `new`, which would go over all entries once before this does.
+        // Not by `new`, which would go over all entries once more.
         let count = entries.len().min(65536);
         let entries = &mut entries[..count];
         for (number, entry) in entries.iter_mut().enumerate() {
